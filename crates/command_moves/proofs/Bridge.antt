@@ -16,8 +16,8 @@ use Rattle.command_moves.specs.declared.underway.Move.{Move as CodeMove}
 use Rattle.command_moves.specs.Program.{Move, Put}
 use Rattle.command_moves.specs.Left.{InCommand, left_in, idle, wait_move, behind, patch_left}
 use Rattle.command_moves.specs.Steps.{Underway, move_op, op_in, op_of, waited, moved, stepped_in, stepped}
-use Rattle.command_moves.specs.Carried.{coded, IsLeft, IsFor, wait_of}
-use Rattle.command_moves.proofs.Goes.{Leads, before, waited-on, copies, one-copy, select-goes, relinks}
+use Rattle.command_moves.specs.Stepper.{coded, IsLeft, IsFor, wait_of}
+use Rattle.command_moves.proofs.MovesLeft.{Leads, before, waited-on, copies, one-copy, select-goes, relinks}
 
 module _ (job : Job) where
   idle-wait : (request : ℕ) (p : Position) → idle p ≡ true → wait_of job request p ≡ None

@@ -1,3 +1,3 @@
-pub mod Goes
+pub mod MovesLeft
 pub mod Bridge
 pub mod Samples

@@ -1,4 +1,4 @@
 pub mod Program
 pub mod Left
 pub mod Steps
-pub mod Carried
+pub mod Stepper

@@ -6,7 +6,7 @@ ghost use Rattle.word_map.specs.Ops.{placed};
 ghost use Rattle.word_map.specs.Shapes.{shape_of};
 ghost use Rattle.word_machine.specs.Commands.{effect};
 ghost use Rattle.word_machine.specs.Control.{begin_in, control_got, control_next, Control};
-ghost use Rattle.command_moves.specs.Carried.{IsFor};
+ghost use Rattle.command_moves.specs.Stepper.{IsFor};
 ghost use Rattle.command_moves.specs.Left.{InCommand, left_in};
 ghost use Rattle.command_moves.specs.Program.{program};
 ghost use Rattle.command_moves.specs.Steps.{Underway, op_of, stepped};

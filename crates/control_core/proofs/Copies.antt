@@ -8,7 +8,7 @@ use Rattle.word_map.specs.Contents.{other_copy}
 use Rattle.word_map.specs.Words.{at_put}
 use Rattle.ft_desk.specs.Declarations.{IsOf}
 use Rattle.ft_desk.specs.Plans.{copies_after, turned}
-use Rattle.ft_desk.specs.Seen.{Seen, after_command}
+use Rattle.ft_desk.specs.DeskView.{DeskView, after_command}
 use Rattle.word_machine.specs.Commands.{command, edits_or, effect, effect_by, subject, subject_of}
 use Rattle.word_machine.specs.Control.{copy_after}
 use Rattle.word_machine.specs.Values.{copies_in}
@@ -46,7 +46,7 @@ module _ (copies : List ℕ) where
   accepted job D (Disable u) size w = put-own (copies_in copies) u
   accepted job D (MaxDepth depth) size w = put-own (copies_in copies) 0
 
-module _ (job : Job) (s : Seen) (d : ℕ) (c : Command) (named : IsNamed job c) (is : IsOf job s.declared) (same : s.state ≡ desk job d)
+module _ (job : Job) (s : DeskView) (d : ℕ) (c : Command) (named : IsNamed job c) (is : IsOf job s.declared) (same : s.state ≡ desk job d)
     (given : command job d ≡ Some c) (size : length s.copies ≡ length job.users) where
   pub copies-named : copies_in (after_command s c).copies
       ≡ at_put (copies_in s.copies) (subject job d) (copy_after (effect job d) (copies_in s.copies (subject job d)))

@@ -23,7 +23,7 @@ use Rattle.patch_core.specs.Moves.{IsChange, IsInsnIn}
 use Rattle.word_machine.proofs.Small.{lowest_case}
 use Rattle.ft_desk.specs.Declarations.{job_of}
 use Rattle.ft_desk.specs.Plans.{copies_after, edit_plan, first_of, given_by, no_plan, plan_by, sites_between, taken_by, user_after, user_before, user_no}
-use Rattle.ft_desk.specs.Seen.{Seen, after_command, answer, carried_out, turned_down}
+use Rattle.ft_desk.specs.DeskView.{DeskView, after_command, answer, carried_out, turned_down}
 use Rattle.ft_desk.specs.Sites.{changed_sites, same_insn}
 use Rattle.ft_desk.proofs.ClaimLaws.{funcs-is}
 use Rattle.control_core.specs.Plans.{IsDeskIn, IsPlanIn, IsTrampIn}
@@ -59,7 +59,7 @@ module _ (shape : Shape) where
 
   -- ## the desk after an accepted command
 
-  module _ (s : Seen) (k : IsDeskIn shape s) (n : ℕ) where
+  module _ (s : DeskView) (k : IsDeskIn shape s) (n : ℕ) where
     -- a user of the desk
     within : (u : ℕ) → u < length s.declared.specs → u < length s.state.users
     within u h = (let a = k.declared.users in let b = k.users in omega (arith, h, a, b))
@@ -204,7 +204,7 @@ module _ (shape : Shape) where
   pub none-in : IsPlanIn shape no_plan
   none-in = record { user = tt; tramp = tt; list = tt; sites = All-nil (IsChange shape); few = omega arith }
 
-  module _ (s : Seen) (k : IsDeskIn shape s) (few : shape.funcs ≤ FUNCS) (new : Desk) (slots : AreSlots new) (copies : ℕ → ℕ) where
+  module _ (s : DeskView) (k : IsDeskIn shape s) (few : shape.funcs ≤ FUNCS) (new : Desk) (slots : AreSlots new) (copies : ℕ → ℕ) where
     sites : AreSites s.declared.funcs (sites_between s.state new s.declared.funcs)
     sites = sites-in (insn_at s.state) (insn_at new) (insn-at_in new slots) s.declared.funcs 0 (let e = k.declared.funcs in omega (arith, e))
 
@@ -241,7 +241,7 @@ module _ (shape : Shape) where
 
   -- ## after a command
 
-  module _ (s : Seen) (k : IsDeskIn shape s) (few : shape.funcs ≤ FUNCS) (c : Command) (h : IsNamed (job_of s.declared) c) where
+  module _ (s : DeskView) (k : IsDeskIn shape s) (few : shape.funcs ≤ FUNCS) (c : Command) (h : IsNamed (job_of s.declared) c) where
     carried-desk : IsDeskIn shape (carried_out s c)
     carried-desk = record {
       declared = k.declared;

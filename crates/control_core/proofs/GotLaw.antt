@@ -26,11 +26,11 @@ use Rattle.control_core.specs.declared.phase.Phase.{Phase}
 use Rattle.control_core.specs.declared.phase.Phase.TheVariants as phase
 use Rattle.control_core.specs.Positions.{linking_at, listed_by, moves_left, moving_by, moving_to, plan_at, quiet_by, stored_by, writing_at}
 use Rattle.control_core.specs.Seated.{Seated, IsFor, IsLinkOf, IsPageOf, IsUnder, control_in, position_of}
-use Rattle.control_core.specs.Kept.{HasLeft, IsSafe}
+use Rattle.control_core.specs.ControlInvariant.{HasLeft, IsSafe}
 use Rattle.control_core.specs.Steps.{at_phase, linked, listed, moved, page_after, pair_at, stepped_in, write_next, wrote}
 use Rattle.control_core.proofs.Leads.{Leads, Went, batch-leads, lead-to, list-leads, machine_at, quiet-leads, store-leads}
 use Rattle.control_core.proofs.PositionsBatch.{batch-goes_on}
-use Rattle.control_core.proofs.PositionsGoes.{push-goes, push-order, select-goes, take-goes, unlink-goes, unlink-order}
+use Rattle.control_core.proofs.NextPositions.{push-goes, push-order, select-goes, take-goes, unlink-goes, unlink-order}
 use Rattle.control_core.proofs.PositionsWriting.{writing-got, writing-state}
 use Rattle.control_core.proofs.Under.{base-of, copies-is, order-is, plan-is}
 

@@ -7,12 +7,12 @@ use Rattle.word_machine.specs.Values.{copies_in}
 use Rattle.control_core.specs.declared.phase.Phase.{Phase}
 use Rattle.control_core.specs.declared.phase.Phase.TheVariants as phase
 use Rattle.control_core.specs.Seated.{Seated, Fits, IsDeskOf, IsFor, control_in, control_of, position_of}
-use Rattle.control_core.specs.Kept.{HasLeft, IsSafe}
+use Rattle.control_core.specs.ControlInvariant.{HasLeft, IsSafe}
 use Rattle.control_core.specs.Steps.{stepped, stepped_in}
 use Rattle.control_core.proofs.GotLaw.{at-plan, linking-by, listing, patching, quieting, releasing, taking, writing}
 use Rattle.control_core.proofs.Leads.{Went}
 use Rattle.control_core.proofs.LineLaw.{at-a-line, closing}
-use Rattle.control_core.proofs.PositionsGoes.{depth-goes, pids-goes}
+use Rattle.control_core.proofs.NextPositions.{depth-goes, pids-goes}
 use Rattle.control_core.proofs.WaitLaw.{quieting as quiet-waits, syncing}
 
 module _ (job : Job) (c : Seated) (safe : IsSafe c) (is : IsFor job c) (v : ℕ) where

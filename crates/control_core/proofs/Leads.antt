@@ -26,7 +26,7 @@ use Rattle.control_core.specs.Positions.{begun_by, begun_to, listed_by, listed_t
 use Rattle.control_core.specs.Seated.{Seated, Fits, IsDeskOf, IsFor, IsUnder, control_of, desk_by, is_linked, is_selected, position_of}
 use Rattle.control_core.specs.Steps.{at_phase}
 use Rattle.control_core.proofs.PositionsEffects.{no-pair, no-sel, push-user}
-use Rattle.control_core.proofs.PositionsGoes.{copies-kept, order-kept}
+use Rattle.control_core.proofs.NextPositions.{copies-kept, order-kept}
 use Rattle.control_core.proofs.PositionsWriting.{copy-first}
 use Rattle.control_core.proofs.Under.{Base, copies-is, order-is, plan-is}
 

@@ -5,7 +5,7 @@ use Rattle.std.specs.Global.{Vec}
 use Rattle.ft_base.specs.Job.{Job, Ctl, LinePlan}
 use Rattle.ft_desk.specs.Commands.{ctl_of}
 use Rattle.ft_desk.specs.Declarations.{IsOf}
-use Rattle.ft_desk.specs.Seen.{Seen}
+use Rattle.ft_desk.specs.DeskView.{DeskView}
 use Rattle.word_machine.specs.Control.{control_start}
 use Rattle.word_machine_laws.specs.Led.{with_lines}
 use Rattle.word_machine_laws.specs.Orders.{AreLed, IsLed, picked}
@@ -15,7 +15,7 @@ use Rattle.control_core.specs.declared.phase.Phase.TheVariants as phase
 use Rattle.control_core.specs.declared.control.Control.TheInside.{Inside}
 use Rattle.ft_desk.specs.Lines.{lines_of}
 use Rattle.control_core.specs.Seated.{Seated, IsFor, IsOpening, control_of}
-use Rattle.control_core.specs.Kept.{HasLeft, IsKept, busy, seated_of}
+use Rattle.control_core.specs.ControlInvariant.{HasLeft, ControlInvariant, busy, seated_of}
 use Rattle.control_core.proofs.LeadLaw.{of-lines}
 use Rattle.control_core.proofs.Leading.{none-led, not-all, one-more}
 use Rattle.control_core.proofs.Named.{named-picked}
@@ -25,11 +25,11 @@ use Rattle.control_core.proofs.StartLaw.{starts}
 -- ## what is seen
 
 -- as many lines are seen as numbers were led
-pub seen-count : (d : Inside) → IsKept d → length (seated_of d).lines ≡ length d.order.items
+pub seen-count : (d : Inside) → ControlInvariant d → length (seated_of d).lines ≡ length d.order.items
 seen-count d k = length-map (picked d.lines.items d.order.items) (ctl_of d.map.tasks) ∙ picked-count d.lines.items d.order.items k.led.within
 
 -- the present line is one of them, or the one after the last
-pub line-within : (d : Inside) (s : Seated) → IsKept d → seated_of d ≡ s → s.line ≤ length s.lines
+pub line-within : (d : Inside) (s : Seated) → ControlInvariant d → seated_of d ≡ s → s.line ≤ length s.lines
 line-within d s k v =
     let count = seen-count d k in
     let within : d.line + busy d.phase ≤ length d.order.items = k.safe.within in
@@ -71,12 +71,12 @@ left-still : (c : Seated) (lines : List Ctl) (order : List ℕ) (p : Phase) → 
 left-still c lines order (phase.Writing page) h = h
 left-still c lines order _ h = h
 
-module _ (d : Inside) (kept : IsKept d) (order : Vec ℕ) (led : AreLed (length d.lines.items) order.items) (room : vec_capacity d.order ≤ vec_capacity order)
+module _ (d : Inside) (kept : ControlInvariant d) (order : Vec ℕ) (led : AreLed (length d.lines.items) order.items) (room : vec_capacity d.order ≤ vec_capacity order)
     (within : d.line + busy d.phase ≤ length order.items) (few : length order.items ≤ length d.lines.items) where
   abbrev next' : Inside
   next' = record d { order = order }
 
-  pub order-kept : IsKept next'
+  pub order-kept : ControlInvariant next'
   order-kept = record {
     safe = record {
       shape = kept.safe.shape;
@@ -100,8 +100,8 @@ module _ (d : Inside) (kept : IsKept d) (order : Vec ℕ) (led : AreLed (length 
     room = kept.room;
   }
 
-module _ (d : Inside) (kept : IsKept d) (s : Seated) (v : seated_of d ≡ s) (order : Vec ℕ) (room : vec_capacity d.order ≤ vec_capacity order) where
-  pub withheld-kept : IsOpening s → order.items ≡ [] → IsKept (record d { order = order })
+module _ (d : Inside) (kept : ControlInvariant d) (s : Seated) (v : seated_of d ≡ s) (order : Vec ℕ) (room : vec_capacity d.order ≤ vec_capacity order) where
+  pub withheld-kept : IsOpening s → order.items ≡ [] → ControlInvariant (record d { order = order })
   withheld-kept o e =
       let line : d.line ≡ 0 = ap (λ (c : Seated). c.line) v ∙ o.line in
       let idle : busy d.phase ≡ 0 = ap (λ (c : Seated). busy c.phase) v ∙ ap busy o.phase in
@@ -109,7 +109,7 @@ module _ (d : Inside) (kept : IsKept d) (s : Seated) (v : seated_of d ≡ s) (or
       order-kept d kept order (subst (AreLed (length d.lines.items)) (sym e) (none-led (length d.lines.items))) room
       (omega (arith, line, idle)) (omega (arith, none))
 
-module _ (d : Inside) (kept : IsKept d) (s : Seated) (v : seated_of d ≡ s) (n : ℕ) (there : n < length s.all) (fresh : IsLed s.order n → ⊥) where
+module _ (d : Inside) (kept : ControlInvariant d) (s : Seated) (v : seated_of d ≡ s) (n : ℕ) (there : n < length s.all) (fresh : IsLed s.order n → ⊥) where
   is-there : n < length d.lines.items
   is-there = subst (λ m. n < m) (ap (λ (c : Seated). length c.all) (sym v) ∙ length-map d.lines.items (ctl_of d.map.tasks)) there
 
@@ -127,7 +127,7 @@ module _ (d : Inside) (kept : IsKept d) (s : Seated) (v : seated_of d ≡ s) (n 
       let space = kept.space in
       omega (arith, few, numbers, lines, space)
 
-  pub lead-kept : (order : Vec ℕ) → vec_capacity d.order ≤ vec_capacity order → order.items ≡ d.order.items ++ n ∷ [] → IsKept (record d { order = order })
+  pub lead-kept : (order : Vec ℕ) → vec_capacity d.order ≤ vec_capacity order → order.items ≡ d.order.items ++ n ∷ [] → ControlInvariant (record d { order = order })
   lead-kept order room e =
       let long : length order.items ≡ length d.order.items + 1 = ap length e ∙ length_push d.order.items n in
       let within : d.line + busy d.phase ≤ length d.order.items = kept.safe.within in
@@ -143,7 +143,7 @@ pub withheld-starts : (job : Job) (plan : LinePlan) (c : Seated) → IsFor job c
     × (control_of (record c { lines = []; order = [] }) ≡ control_start (with_lines job [] plan))
 withheld-starts job plan c is o =
     starts (with_lines job [] plan) (record c { lines = []; order = [] }) is.shape refl
-    (of-lines job [] plan c.desk.declared (subst (λ (s : Seen). IsOf job s.declared) o.before is.declared))
+    (of-lines job [] plan c.desk.declared (subst (λ (s : DeskView). IsOf job s.declared) o.before is.declared))
     (record {
       desk = o.desk;
       before = o.before;

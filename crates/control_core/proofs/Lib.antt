@@ -6,7 +6,7 @@ pub mod Plans
 pub mod Copies
 pub mod ChangedSites
 pub mod Safe
-pub mod Kept
+pub mod ControlFields
 pub mod Nexts
 pub mod Pages
 pub mod DeskIn
@@ -17,7 +17,7 @@ pub mod PositionsPlans
 pub mod PositionsBatch
 pub mod PositionsEffects
 pub mod PositionsStores
-pub mod PositionsGoes
+pub mod NextPositions
 pub mod Under
 pub mod NextLaw
 pub mod Leads

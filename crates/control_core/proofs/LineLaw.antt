@@ -4,14 +4,14 @@ use Rattle.std.specs.Prelude.{nat_le, slice_get}
 use Rattle.ft_base.specs.Job.{Job, Command, Ctl, Run, Until, commands_in}
 use Rattle.word_map.specs.Contents.{high}
 use Rattle.ft_desk.specs.Declarations.{IsOf}
-use Rattle.ft_desk.specs.Seen.{Seen, after_command, answer}
+use Rattle.ft_desk.specs.DeskView.{DeskView, after_command, answer}
 use Rattle.word_machine.specs.Commands.{command, effect}
 use Rattle.word_machine.specs.Control.{Control, Position, begin_in, got_in, line_got, rest_lines, Close, Line}
 use Rattle.word_machine.specs.Values.{copies_in}
 use Rattle.control_core.specs.declared.phase.Phase.TheVariants as phase
 use Rattle.control_core.specs.Positions.{begun_by}
 use Rattle.control_core.specs.Seated.{Seated, Fits, IsDeskOf, IsFor, IsUnder, control_in}
-use Rattle.control_core.specs.Kept.{IsSafe}
+use Rattle.control_core.specs.ControlInvariant.{IsSafe}
 use Rattle.control_core.specs.Steps.{begun, closed, line_after, stepped_in}
 use Rattle.ft_desk.proofs.LineLaws.{commands-after, declared-after}
 use Rattle.control_core.proofs.GotLaw.{went}
@@ -30,9 +30,9 @@ module _ (job : Job) (c : Seated) (safe : IsSafe c) (is : IsFor job c) (u : IsUn
         is_for = record {
           shape = is.shape;
           lines = is.lines;
-          declared = subst (IsOf job) (sym (ap (λ (t : Seen). t.declared) u.4 ∙ declared-after c.before u.0)) is.declared;
+          declared = subst (IsOf job) (sym (ap (λ (t : DeskView). t.declared) u.4 ∙ declared-after c.before u.0)) is.declared;
           before = state-is job c (base-of job c safe is) u;
-          numbered = ap (λ (t : Seen). t.commands) u.4 ∙ commands-after c.before u.0 ∙ ap suc is.numbered;
+          numbered = ap (λ (t : DeskView). t.commands) u.4 ∙ commands-after c.before u.0 ∙ ap suc is.numbered;
           counted = ap suc is.counted ∙ sym (count-run c.lines c.line u.0 u.2);
           now = refl;
           fits = refl;
@@ -98,7 +98,7 @@ module _ (job : Job) (c : Seated) (safe : IsSafe c) (is : IsFor job c) (at-line 
         ap₂ (λ (ls : List Ctl) d. slice_get (commands_in ls) d) (sym is.lines) is.counted ∙ command-at c.lines c.line x e
 
     under : IsUnder job begins
-    under = (x, given, e, ap (λ (t : Seen). answer t x) same, ap (λ (t : Seen). after_command t x) same)
+    under = (x, given, e, ap (λ (t : DeskView). answer t x) same, ap (λ (t : DeskView). after_command t x) same)
 
     base : Base job begins
     base = record { shape = is.shape; declared = is.declared; before = is.before; numbered = is.numbered; named = safe.named; copied = safe.copied }
@@ -112,7 +112,7 @@ module _ (job : Job) (c : Seated) (safe : IsSafe c) (is : IsFor job c) (at-line 
         (ap (λ (at' : Position). machine_at c at' (copies_in c.before.copies) c.before.order)
         (ap (begun_by job) (plan-is job begins base under)
         ∙ sym (begin-is job c.commands_done (copies_in c.before.copies) c.before.order (effect job c.commands_done)))
-        ∙ ap (λ (t : Seen). machine_at c (begin_in job c.commands_done (effect job c.commands_done)) (copies_in t.copies) t.order) (sym same))
+        ∙ ap (λ (t : DeskView). machine_at c (begin_in job c.commands_done (effect job c.commands_done)) (copies_in t.copies) t.order) (sym same))
 
   line-by : (o : Option Ctl) → slice_get c.lines c.line ≡ o → Went job (line_after c o v) (line_got job now (drop c.line c.lines) v)
   line-by None e = ended e

@@ -16,7 +16,7 @@ use Rattle.ft_desk.specs.declared.command.Ctl.TheVariants.{Run, Until}
 use Rattle.ft_desk.specs.Commands.{IsInShape, command_of, ctl_of}
 use Rattle.ft_desk.specs.Declarations.{Declared, job_of}
 use Rattle.ft_desk.specs.Plans.{PlainPlan}
-use Rattle.ft_desk.specs.Seen.{Seen, after_command, answer}
+use Rattle.ft_desk.specs.DeskView.{DeskView, after_command, answer}
 use Rattle.word_machine_laws.specs.Orders.{picked}
 use Rattle.control_core.specs.declared.phase.Phase.{Phase}
 use Rattle.control_core.specs.declared.phase.Phase.TheVariants as phase
@@ -25,7 +25,7 @@ use Rattle.ft_desk.specs.Lines.{IsLineIn}
 use Rattle.control_core.specs.Plans.{IsDeskIn, IsPlanIn}
 use Rattle.control_core.specs.Phases.{begin_to}
 use Rattle.control_core.specs.Seated.{Seated}
-use Rattle.control_core.specs.Kept.{IsKept, asked, busy, seated_of, requests_of_line}
+use Rattle.control_core.specs.ControlInvariant.{ControlInvariant, asked, busy, seated_of, requests_of_line}
 use Rattle.control_core.specs.Steps.{line_after, marked}
 use Rattle.control_core.proofs.Picked.{picked-count, picked-each}
 use Rattle.ft_desk.proofs.LineLaws.{commands-after, declared-after}
@@ -43,7 +43,7 @@ pub present-at : (xs items : List Ctl) (ks order : List ℕ) (i : ℕ) (x y : Ct
     → slice_get (picked items order) i ≡ Some y
 present-at xs items ks order i x y lines numbers at' is = present-is xs items ks order i (Some y) lines numbers (ap Some (sym is) ∙ at')
 
-module _ (d : Inside) (k : IsKept d) where
+module _ (d : Inside) (k : ControlInvariant d) where
   abbrev lines : List Ctl
   lines = picked d.lines.items d.order.items
 
@@ -59,16 +59,16 @@ module _ (d : Inside) (k : IsKept d) where
     named : IsNamed (job_of d.desk.declared) (command_of d.desk.declared.tasks x)
     named = (run-in x e).0
 
-    pub run-plan : (next : Seen) (plan : PlainPlan) → next ≡ after_command d.desk (command_of d.desk.declared.tasks x) → plan ≡ next.plan
+    pub run-plan : (next : DeskView) (plan : PlainPlan) → next ≡ after_command d.desk (command_of d.desk.declared.tasks x) → plan ≡ next.plan
         → IsPlanIn d.map plan
     run-plan next plan n p =
-        subst (IsPlanIn d.map) (sym (p ∙ ap (λ (t : Seen). t.plan) n))
+        subst (IsPlanIn d.map) (sym (p ∙ ap (λ (t : DeskView). t.plan) n))
         (plan-after d.map d.desk k.safe.desk k.safe.shape.counts.few_functions (command_of d.desk.declared.tasks x) named)
 
-    pub run-kept : (next : Seen) (a : Answer) (p : Phase) (plan : PlainPlan) (items : Vec Stamped) → d.phase ≡ phase.Line
+    pub run-kept : (next : DeskView) (a : Answer) (p : Phase) (plan : PlainPlan) (items : Vec Stamped) → d.phase ≡ phase.Line
         → next ≡ after_command d.desk (command_of d.desk.declared.tasks x) → plan ≡ next.plan → p ≡ begin_to d.map plan
         → vec_len items ≡ vec_len d.items + 1 → vec_capacity items ≡ vec_capacity d.items
-        → IsKept (record d { desk = next; answer = a; phase = p; items = items })
+        → ControlInvariant (record d { desk = next; answer = a; phase = p; items = items })
     run-kept next a p plan items line n pl ph len cap =
         let goes : (c : Seated) → c.shape ≡ d.map → Goes c p = λ c es. subst (Goes c) (sym (ph ∙ ap (λ sh. begin_to sh plan) (sym es))) (begin-goes c plan) in
         let c : Seated = seated_of (record d { desk = next; answer = a; phase = p; items = items }) in
@@ -77,7 +77,7 @@ module _ (d : Inside) (k : IsKept d) where
         let none : asked d.phase ≡ 0 = ap asked line in
         let count : length lines ≡ length d.order.items = picked-count d.lines.items d.order.items k.led.within in
         let within : d.line < length lines = slice_get_within lines d.line (Run x) e in
-        let numbered : next.commands ≡ suc d.desk.commands = ap (λ (t : Seen). t.commands) n ∙ commands-after d.desk (command_of d.desk.declared.tasks x) in
+        let numbered : next.commands ≡ suc d.desk.commands = ap (λ (t : DeskView). t.commands) n ∙ commands-after d.desk (command_of d.desk.declared.tasks x) in
         let old-numbered : d.desk.commands ≡ d.commands_done + busy d.phase = k.safe.numbered in
         let few : d.request ≤ requests_of_line * d.line + d.batch.made + asked d.phase = k.safe.requests in
         let room : vec_len d.items + 2 * vec_len d.lines ≤ vec_capacity d.items + 2 * d.line + busy d.phase = k.room in
@@ -99,7 +99,7 @@ module _ (d : Inside) (k : IsKept d) where
             left = g.left;
           };
           lines = subst (λ (t : Declared). All (IsLineIn t) d.lines.items)
-              (sym (ap (λ (t : Seen). t.declared) n ∙ declared-after d.desk (command_of d.desk.declared.tasks x))) k.lines;
+              (sym (ap (λ (t : DeskView). t.declared) n ∙ declared-after d.desk (command_of d.desk.declared.tasks x))) k.lines;
           led = k.led;
           space = k.space;
           batch = k.batch;
@@ -136,8 +136,8 @@ module _ (d : Inside) (s : Seated) (v : seated_of d ≡ s) (w : ℕ) where
       ∙ ap (λ b. cond b (record s { line = suc s.line }) s) (sym (le-leb n (high w) le))
       ∙ sym (ap (λ o. line_after s o w) (line-seen (Some (Until t n)) e))
 
-  pub line-run : (x : Code) → present ≡ Some (Run x) → IsKept d
-      → (next : Seen) (a : Answer) (p : Phase) (plan : PlainPlan) (items : Vec Stamped) (k place : ℕ)
+  pub line-run : (x : Code) → present ≡ Some (Run x) → ControlInvariant d
+      → (next : DeskView) (a : Answer) (p : Phase) (plan : PlainPlan) (items : Vec Stamped) (k place : ℕ)
       → next ≡ after_command d.desk (command_of d.desk.declared.tasks x) → a ≡ answer d.desk (command_of d.desk.declared.tasks x)
       → plan ≡ next.plan → p ≡ begin_to d.map plan → k ≡ suc d.commands_done → place ≡ low w
       → items.items ≡ d.items.items ++ record { place = place; item = Begin k } ∷ []
@@ -147,7 +147,7 @@ module _ (d : Inside) (s : Seated) (v : seated_of d ≡ s) (w : ℕ) where
       let n' : next ≡ after_command d.desk (command_of d.map.tasks x) = n ∙ ap (λ t. after_command d.desk (command_of t x)) tasks in
       let a' : a ≡ answer d.desk (command_of d.map.tasks x) = ea ∙ ap (λ t. answer d.desk (command_of t x)) tasks in
       let p' : p ≡ begin_to d.map (after_command d.desk (command_of d.map.tasks x)).plan =
-      ph ∙ ap (begin_to d.map) (pl ∙ ap (λ (t : Seen). t.plan) n') in
+      ph ∙ ap (begin_to d.map) (pl ∙ ap (λ (t : DeskView). t.plan) n') in
       let i' : items.items ≡ d.items.items ++ marked w (Begin (suc d.commands_done)) ∷ [] =
       ei ∙ (λ i. d.items.items ++ record { place = ep i; item = Begin (ek i) } ∷ []) in
       (λ i. record (seated_of d) { desk = n' i; answer = a' i; phase = p' i; items = i' i })

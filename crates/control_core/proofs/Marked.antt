@@ -26,7 +26,7 @@ use Rattle.control_core.specs.declared.phase.Phase.{Phase}
 use Rattle.control_core.specs.declared.phase.Phase.TheVariants as phase
 use Rattle.control_core.specs.Phases.{is_linked_up, is_over}
 use Rattle.control_core.specs.Seated.{Seated, IsFor, control_of}
-use Rattle.control_core.specs.Kept.{IsSafe}
+use Rattle.control_core.specs.ControlInvariant.{IsSafe}
 use Rattle.control_core.specs.Steps.{depth_next, line_after, line_next, linked_after, marks_in, op_in, page_after, patch_next, pids_next, release_next, select_next, stepped, stepped_in, take_next, write_next}
 use Rattle.control_core.proofs.NextLaw.{next-law}
 

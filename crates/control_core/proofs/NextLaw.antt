@@ -23,7 +23,7 @@ use Rattle.control_core.specs.declared.phase.Phase.{Phase}
 use Rattle.control_core.specs.declared.phase.Phase.TheVariants as phase
 use Rattle.control_core.specs.Positions.{linking_at, moves_left, moving_to, plan_at, writing_at}
 use Rattle.control_core.specs.Seated.{Seated, Fits, IsDeskOf, IsFor, IsLinkOf, IsPageOf, IsUnder, control_in, control_of, position_of}
-use Rattle.control_core.specs.Kept.{HasLeft, IsSafe}
+use Rattle.control_core.specs.ControlInvariant.{HasLeft, IsSafe}
 use Rattle.control_core.specs.Steps.{depth_next, op_in, op_of, pair_at, patch_next, pids_next, release_next, select_next, take_next, write_next}
 use Rattle.control_core.proofs.PositionsEffects.{sel-user, set-user}
 use Rattle.control_core.proofs.PositionsStores.{copy-is, depth-op, head-op, pids-op, push-op, release-op, sel-is, select-op, take-op, unlink-op, user-is}

@@ -9,17 +9,17 @@ use Rattle.word_map.specs.Ops.{placed}
 use Rattle.hash_pages.specs.Pages.{Page, page_next}
 use Rattle.ft_desk.specs.declared.command.Ctl.{Ctl}
 use Rattle.ft_desk.specs.Commands.{ctl_of}
-use Rattle.ft_desk.specs.Seen.{Seen}
+use Rattle.ft_desk.specs.DeskView.{DeskView}
 use Rattle.word_machine_laws.specs.Orders.{picked}
 use Rattle.control_core.specs.declared.phase.Phase.{Phase}
 use Rattle.control_core.specs.declared.phase.Phase.TheVariants as phase
 use Rattle.control_core.specs.declared.control.Control.TheInside.{Inside}
 use Rattle.control_core.specs.Seated.{Seated}
-use Rattle.control_core.specs.Kept.{HasLeft, IsKept, seated_of}
+use Rattle.control_core.specs.ControlInvariant.{HasLeft, ControlInvariant, seated_of}
 use Rattle.control_core.specs.Steps.{line_next, op_in, op_of, pair_at, write_next}
 
 -- what a phase has
-pub left-at : (d : Inside) (p : Phase) → IsKept d → d.phase ≡ p → HasLeft (seated_of d) p
+pub left-at : (d : Inside) (p : Phase) → ControlInvariant d → d.phase ≡ p → HasLeft (seated_of d) p
 left-at d p k e = subst (HasLeft (seated_of d)) e k.safe.left
 
 -- the operation of the phase is the next one
@@ -39,7 +39,7 @@ line-is d xs ks lines order =
     ∙ sym (slice_get-map (ctl_of d.map.tasks) (picked d.lines.items d.order.items) d.line))
 
 -- the page of the plan's user
-pub write-is : (s : Seen) (page : Page) (u : UserNo) (pair : Pair) (user : Option UserNo) → user ≡ s.plan.user → user ≡ Some u
+pub write-is : (s : DeskView) (page : Page) (u : UserNo) (pair : Pair) (user : Option UserNo) → user ≡ s.plan.user → user ≡ Some u
     → pair.filter ≡ (user_at s.state u.0).filter → pair.notrace ≡ (user_at s.state u.0).notrace
     → page_next page pair ≡ write_next s.state page s.plan.user
 write-is s page u pair user same some filter notrace =

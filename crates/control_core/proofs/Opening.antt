@@ -15,7 +15,7 @@ use Rattle.patch_core.specs.Moves.{Batched}
 use Rattle.ft_desk.specs.declared.command.Ctl.{Ctl}
 use Rattle.ft_desk.specs.Commands.{ctl_of}
 use Rattle.ft_desk.specs.Declarations.{Declared, job_of}
-use Rattle.ft_desk.specs.Seen.{Seen, opened}
+use Rattle.ft_desk.specs.DeskView.{DeskView, opened}
 use Rattle.ft_desk.proofs.ClaimLaws.{funcs-is}
 use Rattle.control_core.specs.declared.phase.Phase.TheVariants as phase
 use Rattle.control_core.specs.declared.control.Control.TheInside.{Inside}
@@ -23,7 +23,7 @@ use Rattle.word_machine_laws.specs.Orders.{AreLed, picked}
 use Rattle.word_machine_laws.proofs.LedLists.{picked_all as picked-whole}
 use Rattle.ft_desk.specs.Lines.{IsLineIn, lines_of}
 use Rattle.control_core.specs.Plans.{IsDeclaredIn, IsDeskIn, IsPlanIn}
-use Rattle.control_core.specs.Kept.{HasLeft, IsKept, asked, busy, seated_of}
+use Rattle.control_core.specs.ControlInvariant.{HasLeft, ControlInvariant, asked, busy, seated_of}
 use Rattle.control_core.proofs.DeskIn.{none-in}
 use Rattle.control_core.proofs.Named.{named-picked}
 use Rattle.control_core.proofs.Leading.{all-led}
@@ -58,10 +58,10 @@ pub opening-kept : (d : Inside) (xs : List Ctl) → IsShape d.map → d.desk ≡
     → d.before.value ≡ d.desk → d.lines.items ≡ xs → vec_len d.lines ≡ length xs → All (IsLineIn d.desk.declared) xs → length xs ≤ COMMANDS + UNTILS
     → d.order.items ≡ range_with_len 0 (length xs) → length xs ≤ vec_capacity d.order
     → d.line ≡ 0 → d.commands_done ≡ 0 → d.request ≡ 0 → d.batch ≡ record { shape = d.map; made = 0 } → d.phase ≡ phase.Line
-    → vec_len d.items ≡ 0 → 2 * length xs ≤ vec_capacity d.items → IsKept d
+    → vec_len d.items ≡ 0 → 2 * length xs ≤ vec_capacity d.items → ControlInvariant d
 opening-kept d xs shape dk dc bf ls len all few order space line done req batch ph none room =
     let desk : IsDeskIn d.map d.desk = subst (IsDeskIn d.map) (sym dk) (opened-in d.map d.desk.declared dc) in
-    let commands : d.desk.commands ≡ 0 = ap (λ (s : Seen). s.commands) dk in
+    let commands : d.desk.commands ≡ 0 = ap (λ (s : DeskView). s.commands) dk in
     let idle : busy d.phase ≡ 0 = ap busy ph in
     let quiet : asked d.phase ≡ 0 = ap asked ph in
     let made : d.batch.made ≡ 0 = ap (λ (b : Batched). b.made) batch in
@@ -72,8 +72,8 @@ opening-kept d xs shape dk dc bf ls len all few order space line done req batch 
       safe = record {
         shape = shape;
         desk = desk;
-        plan = subst (IsPlanIn d.map) (sym (ap (λ (s : Seen). s.plan) dk)) (none-in d.map);
-        copied = ap (λ (s : Seen). length s.copies) bf ∙ desk.copies;
+        plan = subst (IsPlanIn d.map) (sym (ap (λ (s : DeskView). s.plan) dk)) (none-in d.map);
+        copied = ap (λ (s : DeskView). length s.copies) bf ∙ desk.copies;
         numbered = omega arith;
         counted = omega arith;
         within = omega arith;

@@ -13,7 +13,7 @@ use Rattle.hash_pages.proofs.PageLaws.{none_after}
 use Rattle.control_core.specs.declared.phase.Phase.TheVariants as phase
 use Rattle.control_core.specs.declared.control.Control.TheInside.{Inside}
 use Rattle.control_core.specs.Seated.{Seated}
-use Rattle.control_core.specs.Kept.{seated_of}
+use Rattle.control_core.specs.ControlInvariant.{seated_of}
 use Rattle.control_core.specs.Steps.{at_phase, listed, page_after, pair_at, write_next, wrote}
 
 -- an operation is there as a code operation is

@@ -5,7 +5,7 @@ use Rattle.ft_base.specs.Order.{order_after}
 use Rattle.ft_base.specs.Desk.{Desk, desk, user_at, answer_on, is_accepted}
 use Rattle.ft_desk.specs.Declarations.{IsOf}
 use Rattle.ft_desk.specs.Plans.{edit_plan, plan_by}
-use Rattle.ft_desk.specs.Seen.{Seen, after_command}
+use Rattle.ft_desk.specs.DeskView.{DeskView, after_command}
 use Rattle.word_machine.specs.Commands.{Nothing, edits_or, command, effect, effect_by, subject, subject_of}
 use Rattle.word_machine.specs.Values.{copies_in}
 use Rattle.control_core.specs.Followed.{order_followed, plan_followed}
@@ -60,7 +60,7 @@ module _ (order : List ℕ) where
 
 -- ## what the desk has after the command
 
-module _ (job : Job) (s : Seen) (d : ℕ) (c : Command) (is : IsOf job s.declared) (same : s.state ≡ desk job d)
+module _ (job : Job) (s : DeskView) (d : ℕ) (c : Command) (is : IsOf job s.declared) (same : s.state ≡ desk job d)
     (given : command job d ≡ Some c) where
   pub plan-same : s.commands ≡ d → (after_command s c).plan ≡ plan_followed job d (copies_in s.copies) s.order (effect job d)
   plan-same count = by (is_accepted (answer_on job (desk job d) c)) refl

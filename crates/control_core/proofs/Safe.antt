@@ -14,7 +14,7 @@ use Rattle.ft_desk.specs.Plans.{PlainPlan}
 use Rattle.control_core.specs.declared.phase.Phase.{Phase}
 use Rattle.control_core.specs.Phases.{batch_to, begin_in, begin_to, list_in, list_to, move_to, number_to, quiet_to, store_in, store_to, write_to}
 use Rattle.control_core.specs.Seated.{Seated}
-use Rattle.control_core.specs.Kept.{HasLeft, IsSafe, asked, busy, moves, requests_of_line}
+use Rattle.control_core.specs.ControlInvariant.{HasLeft, IsSafe, asked, busy, moves, requests_of_line}
 use Rattle.control_core.specs.Steps.{at_phase}
 
 -- a batch that is not done has a move left

@@ -5,7 +5,7 @@ use Rattle.ft_base.specs.Desk.{desk}
 use Rattle.word_machine_laws.proofs.ValueLaws.{copy-start}
 use Rattle.word_map.specs.Shapes.{shape_of}
 use Rattle.ft_desk.specs.Declarations.{Declared, IsOf}
-use Rattle.ft_desk.specs.Seen.{Seen, opened}
+use Rattle.ft_desk.specs.DeskView.{DeskView, opened}
 use Rattle.ft_desk.proofs.JobLaws.{opening-is}
 use Rattle.word_machine.specs.Control.{Line, control_start}
 use Rattle.word_machine.specs.Values.{copies_in}
@@ -30,9 +30,9 @@ module _ (job : Job) (c : Seated) (shape : c.shape ≡ shape_of job) (lines : c.
   is-for = record {
     shape = shape;
     lines = lines;
-    declared = subst (λ (s : Seen). IsOf job s.declared) (sym o.before) of;
-    before = ap (λ (s : Seen). s.state) before-is ∙ start-desk job c.desk.declared of ∙ ap (desk job) (sym o.commands_done);
-    numbered = ap (λ (s : Seen). s.commands) before-is ∙ sym o.commands_done;
+    declared = subst (λ (s : DeskView). IsOf job s.declared) (sym o.before) of;
+    before = ap (λ (s : DeskView). s.state) before-is ∙ start-desk job c.desk.declared of ∙ ap (desk job) (sym o.commands_done);
+    numbered = ap (λ (s : DeskView). s.commands) before-is ∙ sym o.commands_done;
     counted = o.commands_done ∙ ap (λ n. length (commands_in (take n c.lines))) (sym o.line);
     now = subst (IsDeskOf job c) (sym o.phase) (sym o.before);
     fits = subst (Fits c) (sym o.phase) o.made;
@@ -45,8 +45,8 @@ module _ (job : Job) (c : Seated) (shape : c.shape ≡ shape_of job) (lines : c.
         commands_done = o.commands_done i;
         remaining = drop (o.line i) (lines i);
         request = o.request i;
-        copies = λ u. ((ap (λ (s : Seen). copies_in s.copies u) o.desk ∙ copy-start (length c.desk.declared.specs) u) i);
-        order = ap (λ (s : Seen). s.order) o.desk i;
+        copies = λ u. ((ap (λ (s : DeskView). copies_in s.copies u) o.desk ∙ copy-start (length c.desk.declared.specs) u) i);
+        order = ap (λ (s : DeskView). s.order) o.desk i;
         position = Line;
       })
 

@@ -9,7 +9,7 @@ use Rattle.word_map.specs.declared.shape.Shape.{Shape}
 use Rattle.word_map.specs.Words.{at_put}
 use Rattle.word_map.specs.Shapes.{shape_of}
 use Rattle.ft_desk.specs.Declarations.{IsOf}
-use Rattle.ft_desk.specs.Seen.{Seen}
+use Rattle.ft_desk.specs.DeskView.{DeskView}
 use Rattle.word_machine.specs.Commands.{command, effect, subject}
 use Rattle.word_machine.specs.Control.{answer_in, copy_after, line_op}
 use Rattle.word_machine.specs.Values.{copies_in}
@@ -17,7 +17,7 @@ use Rattle.control_core.specs.Followed.{order_followed}
 use Rattle.control_core.specs.Positions.{plan_at}
 use Rattle.control_core.specs.Lines.{IsNamedLine}
 use Rattle.control_core.specs.Seated.{Seated, IsFor, IsUnder}
-use Rattle.control_core.specs.Kept.{IsSafe}
+use Rattle.control_core.specs.ControlInvariant.{IsSafe}
 use Rattle.control_core.specs.Steps.{line_next}
 use Rattle.control_core.proofs.Copies.{copies-named}
 use Rattle.ft_desk.proofs.NextDesk.{state-same}
@@ -77,24 +77,24 @@ base-of job c safe is = record {
 module _ (job : Job) (c : Seated) (is : Base job c) (u : IsUnder job c) where
   pub plan-is : c.desk.plan ≡ plan_at job c.commands_done (copies_in c.before.copies) c.before.order
   plan-is =
-      ap (λ (t : Seen). t.plan) u.4
+      ap (λ (t : DeskView). t.plan) u.4
       ∙ plan-same job c.before c.commands_done u.0 is.declared is.before u.1 is.numbered
 
   pub state-is : c.desk.state ≡ desk job (suc c.commands_done)
   state-is =
-      ap (λ (t : Seen). t.state) u.4
+      ap (λ (t : DeskView). t.state) u.4
       ∙ state-same job c.before c.commands_done u.0 is.declared is.before u.1 is.numbered
 
   pub order-is : c.desk.order ≡ order_followed (subject job c.commands_done) c.before.order (effect job c.commands_done)
   order-is =
-      ap (λ (t : Seen). t.order) u.4
+      ap (λ (t : DeskView). t.order) u.4
       ∙ order-same job c.before c.commands_done u.0 is.declared is.before u.1
 
   pub copies-is : copies_in c.desk.copies ≡ at_put (copies_in c.before.copies) (subject job c.commands_done)
       (copy_after (effect job c.commands_done) (copies_in c.before.copies (subject job c.commands_done)))
   copies-is =
       let users : c.shape.users ≡ length job.users = ap (λ (s : Shape). s.users) is.shape in
-      ap (λ (t : Seen). copies_in t.copies) u.4
+      ap (λ (t : DeskView). copies_in t.copies) u.4
       ∙ copies-named job c.before c.commands_done u.0
       (named-by job c.shape.users users u.0 (at-line c.shape.users c.lines c.line (Run u.0) is.named u.2))
       is.declared is.before u.1 (is.copied ∙ users)

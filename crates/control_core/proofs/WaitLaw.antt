@@ -15,7 +15,7 @@ use Rattle.control_core.specs.declared.phase.Phase.TheVariants as phase
 use Rattle.control_core.specs.Phases.{is_over, wait_in}
 use Rattle.control_core.specs.Positions.{moves_left, released_by, waiting_at}
 use Rattle.control_core.specs.Seated.{Seated, Fits, IsFor, IsUnder, IsWaitOf}
-use Rattle.control_core.specs.Kept.{IsSafe}
+use Rattle.control_core.specs.ControlInvariant.{IsSafe}
 use Rattle.control_core.specs.Steps.{at_phase, requests_after, with_request}
 use Rattle.control_core.proofs.GotLaw.{Goes, at-plan, went}
 use Rattle.control_core.proofs.Leads.{Leads, Went, batch-leads, lead-to, machine_at, release-leads}

@@ -5,4 +5,4 @@ pub mod Lines
 pub mod Phases
 pub mod Seated
 pub mod Steps
-pub mod Kept
+pub mod ControlInvariant

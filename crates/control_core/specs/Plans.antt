@@ -11,7 +11,7 @@ use Rattle.ft_desk.specs.declared.plan.ListChange.{ListChange}
 use Rattle.ft_desk.specs.declared.plan.ListChange.TheVariants.{Keep as KeepList, Push, Unlink}
 use Rattle.ft_desk.specs.Declarations.{Declared}
 use Rattle.ft_desk.specs.Plans.{PlainPlan}
-use Rattle.ft_desk.specs.Seen.{Seen}
+use Rattle.ft_desk.specs.DeskView.{DeskView}
 
 -- the numbers that are declared are those of the shape
 pub record IsDeclaredIn (shape : Shape) (d : Declared) : Type 0 where
@@ -21,7 +21,7 @@ pub record IsDeclaredIn (shape : Shape) (d : Declared) : Type 0 where
   pub tramps : d.tramps ≡ shape.tramps
 
 -- a desk of a shape: each user's filter has its functions, each slot is one of its trampolines, and its users are listed
-pub record IsDeskIn (shape : Shape) (s : Seen) : Type 0 where
+pub record IsDeskIn (shape : Shape) (s : DeskView) : Type 0 where
   pub declared : IsDeclaredIn shape s.declared
   pub users : length s.state.users ≡ shape.users
   pub copies : length s.copies ≡ shape.users

@@ -9,7 +9,7 @@ use Rattle.word_map.specs.declared.shape.Shape.{Shape}
 use Rattle.word_map.specs.Shapes.{shape_of}
 use Rattle.word_map.specs.Places.{words_for}
 use Rattle.ft_desk.specs.Declarations.{IsOf}
-use Rattle.ft_desk.specs.Seen.{Seen, after_command, answer, opened}
+use Rattle.ft_desk.specs.DeskView.{DeskView, after_command, answer, opened}
 use Rattle.ft_desk.specs.Plans.{PlainPlan, user_no}
 use Rattle.ft_desk.specs.declared.plan.TrampChange.TheVariants.{Set, Clear}
 use Rattle.ft_desk.specs.declared.plan.ListChange.TheVariants.{Push as PushFirst, Unlink}
@@ -34,8 +34,8 @@ use Rattle.control_core.specs.declared.phase.Phase.TheVariants as phase
 -- batch were made, where it stands, and what it marked
 pub record Seated : Type 0 where
   pub shape : Shape
-  pub desk : Seen
-  pub before : Seen
+  pub desk : DeskView
+  pub before : DeskView
   pub all : List Ctl
   pub order : List ℕ
   pub lines : List Ctl
@@ -75,7 +75,7 @@ is_linked (phase.Linking linker) = false
 is_linked p = is_selected p
 
 -- which of the two desks a fact is read from
-abbrev pub desk_by : Bool → Seated → Seen
+abbrev pub desk_by : Bool → Seated → DeskView
 desk_by now c = if now then c.desk else c.before
 
 -- the word machine's control in a phase

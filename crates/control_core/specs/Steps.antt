@@ -16,7 +16,7 @@ use Rattle.ops_list.specs.Links.{Linked, link_after, link_op}
 use Rattle.patch_core.specs.Moves.{Move, Put, Sync, Done, batch_next}
 use Rattle.ft_desk.specs.declared.plan.TrampChange.{TrampChange}
 use Rattle.ft_desk.specs.declared.plan.TrampChange.TheVariants.{Keep as KeepTramp, Set, Clear}
-use Rattle.ft_desk.specs.Seen.{after_command, answer}
+use Rattle.ft_desk.specs.DeskView.{after_command, answer}
 use Rattle.control_core.specs.declared.phase.Phase.{Phase}
 use Rattle.control_core.specs.declared.phase.Phase.TheVariants as phase
 use Rattle.control_core.specs.Phases.{batch_to, begin_to, is_asking, is_linked_up, is_over, list_to, quiet_to, release_in, store_to}

@@ -5,7 +5,7 @@ ghost use Rattle.ft_base.specs.declared.limits.TheConstants.{COMMANDS, UNTILS};
 ghost use Rattle.word_map.specs.Places.{words_for};
 ghost use Rattle.word_map.specs.Ops.{placed};
 ghost use Rattle.grace_core.specs.Waits.{wait_got};
-ghost use Rattle.ft_desk.specs.Seen.{opened};
+ghost use Rattle.ft_desk.specs.DeskView.{opened};
 ghost use Rattle.word_machine_laws.specs.Orders.{AreLed, IsLed, picked};
 ghost use Rattle.ft_desk.specs.Declarations.{IsOf};
 ghost use Rattle.ft_desk.specs.Lines.{IsLineIn, lines_of};
@@ -60,11 +60,11 @@ impl Model for Control {
 
     ghost Value = { Seated };
 
-    ghost use Rattle.control_core.specs.Kept.{seated_of, IsKept};
+    ghost use Rattle.control_core.specs.ControlInvariant.{seated_of, ControlInvariant};
 
     ghost view = { seated_of };
 
-    ghost invariant = { IsKept };
+    ghost invariant = { ControlInvariant };
 }
 
 impl Control {
@@ -72,7 +72,7 @@ impl Control {
     ghost use Rattle.ft_base.specs.Job.{Job, LinePlan};
     ghost use Rattle.word_machine_laws.specs.Led.{later, more_to_come, with_lines};
     ghost use Rattle.control_core.specs.Seated.{IsFor, IsOpening, LeadsAll, control_of};
-    ghost use Rattle.control_core.specs.Kept.{IsSafe, busy, asked, moves};
+    ghost use Rattle.control_core.specs.ControlInvariant.{IsSafe, busy, asked, moves};
     ghost use Rattle.control_core.specs.Steps.{at_phase, closed, line_after, linked, linked_after, listed, marks_in, moved, op_of, page_after, stepped, wrote};
 
     /// Control before the first of these lines, all of which are led as they stand, with room for all

@@ -14,21 +14,21 @@ use Rattle.word_machine.specs.Task.{begun_act}
 use Rattle.word_machine.specs.Task as machine
 use Rattle.task_core.specs.declared.moment.Moment.TheVariants.{Polling}
 use Rattle.task_core.specs.declared.task.Task.{Task}
-use Rattle.task_core.specs.Fits.{CanBegin, HasAct}
+use Rattle.task_core.specs.TaskNeeds.{CanBegin, HasAct}
 use Rattle.task_core.specs.Starts.{is_left}
 use Rattle.task_core.specs.States.{moment_at, moment_of, stack_of, state_of, users_in}
-use Rattle.task_core.specs.Steady.{HasCallRoom, IsSteady, act_raised}
+use Rattle.task_core.specs.TaskInvariant.{HasCallRoom, TaskInvariant, act_raised}
 use Rattle.task_core.specs.TaskOps.{present, top}
 use Rattle.task_core.specs.TaskSteps.{begun}
-use Rattle.task_core.specs.Tied.{IsTaskOf}
-use Rattle.task_core.proofs.FitsCalls.{present-first}
-use Rattle.cpu_core.proofs.FitsOperation.{can-begin, has-act}
-use Rattle.task_core.proofs.FitsUsers.{few-begun}
-use Rattle.task_core.proofs.HeldGot.{guards-begun, polling-raised}
+use Rattle.task_core.specs.StackInvariant.{IsTaskOf}
+use Rattle.task_core.proofs.StackCalls.{present-first}
+use Rattle.cpu_core.proofs.OperationNeeds.{can-begin, has-act}
+use Rattle.task_core.proofs.FrameRoom.{few-begun}
+use Rattle.task_core.proofs.GuardLaw.{guards-begun, polling-raised}
 use Rattle.cpu_core.proofs.Lookups.{left-is}
-use Rattle.task_core.proofs.SteadyGot.{room-begun, steady-begun}
-use Rattle.task_core.proofs.TiedKept.{IsSameTask, begun-same}
-use Rattle.task_core.proofs.TiedLaw.{acts-same, frames-same, gone-begun, levels-same, limits-same, moment-begun, nested-same, number-same, tied-begun}
+use Rattle.task_core.proofs.InvariantLaw.{room-begun, invariant-begun}
+use Rattle.task_core.proofs.TaskNumbers.{IsSameTask, begun-same}
+use Rattle.task_core.proofs.StackLaw.{acts-same, frames-same, gone-begun, levels-same, limits-same, moment-begun, nested-same, number-same, stack-begun}
 
 module _ (job : Job) (t : Task) (k : IsTaskOf job t) (e : t.moment ≡ Polling) where
   -- it is before its poll
@@ -139,12 +139,12 @@ module _ (job : Job) (t : Task) (k : IsTaskOf job t) (e : t.moment ≡ Polling) 
     nested = nested-same job t (begun t (present t)) k same;
     levels' = levels-same job t (begun t (present t)) k same;
     room = begun-room;
-    tied = tied-begun job t k;
+    tied = stack-begun job t k;
     few = few-begun t k.few;
     moment = moment-begun job t k;
     held = (guards-begun job t k e).held;
     raised = (guards-begun job t k e).raised;
-    steady = subst (λ x. IsSteady job x) (sym (begun-is job t k e left)) (steady-begun job (state_of t) k.steady (before job t k e) has);
+    steady = subst (λ x. TaskInvariant job x) (sym (begun-is job t k e left)) (invariant-begun job (state_of t) k.steady (before job t k e) has);
   }
 
   -- that act can begin

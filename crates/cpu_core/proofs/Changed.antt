@@ -13,7 +13,7 @@ use Rattle.task_core.specs.declared.task.Task.{Task}
 use Rattle.cpu_core.specs.Cpus.{IsOwn, all_marked, cpu_of, number_or, numbers, phase_in}
 use Rattle.cpu_core.specs.Marks.{Marks}
 use Rattle.task_core.specs.States.{state_of}
-use Rattle.task_core.specs.Tied.{IsTaskOf}
+use Rattle.task_core.specs.StackInvariant.{IsTaskOf}
 use Rattle.cpu_core.specs.Turns.{any_left}
 use Rattle.cpu_core.proofs.Lookups.{any-more, each-set, put-is}
 use Rattle.cpu_core.proofs.Numbers.{number-set, numbers-set}

@@ -13,7 +13,7 @@ use Rattle.word_machine.specs.Limits.{IsLimited}
 use Rattle.cpu_core.specs.declared.parts.Parts.{Parts}
 use Rattle.cpu_core.specs.declared.parts.Phase.{Phase}
 use Rattle.cpu_core.specs.declared.parts.Phase.TheVariants.{Going, Looked, Answering, StoringAck, StoringQuiet, Over}
-use Rattle.cpu_core.specs.CpuFits.{CpuFits, FitsIn, GoFits, GoingFits}
+use Rattle.cpu_core.specs.CpuNeeds.{CpuFits, FitsIn, GoFits, GoingFits}
 use Rattle.cpu_core.specs.CpuOps.{is_looking, is_running, phase_op}
 use Rattle.cpu_core.specs.CpuSteps.{acked, answered, gone_on, looked, marks_in, poll_on, polling, stepped, stepped_in, ticked, went, with_told}
 use Rattle.cpu_core.specs.Cpus.{IsFor, IsGoing, IsIn, cpu_of, phase_in}

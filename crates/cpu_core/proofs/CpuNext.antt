@@ -22,25 +22,25 @@ use Rattle.cpu_core.specs.declared.parts.Parts.{Parts}
 use Rattle.cpu_core.specs.declared.parts.Phase.{Phase}
 use Rattle.cpu_core.specs.declared.parts.Phase.TheVariants as code
 use Rattle.task_core.specs.declared.task.Task.{Task}
-use Rattle.cpu_core.specs.CpuFits.{HasNext, IsQuietThere, NextAt}
+use Rattle.cpu_core.specs.CpuNeeds.{HasNext, IsQuietThere, NextAt}
 use Rattle.cpu_core.specs.CpuOps.{cpu_op, is_looking, is_open, is_running, op_by, phase_op, present_task, runs, told_op}
 use Rattle.cpu_core.specs.Cpus.{IsFor, IsIn, cpu_of, number_or, phase_in, tasks_by}
 use Rattle.task_core.specs.Contexts.{is_open_to_requests, open_at}
-use Rattle.task_core.specs.Fits.{IsTaskThere}
+use Rattle.task_core.specs.TaskNeeds.{IsTaskThere}
 use Rattle.task_core.specs.Setups.{PlainSetup}
 use Rattle.task_core.specs.Starts.{is_left}
 use Rattle.task_core.specs.States.{is_polling, moment_at, moment_of, state_of, users_in}
 use Rattle.task_core.specs.TaskOps.{op_of, top}
-use Rattle.task_core.specs.Tied.{IsTaskOf}
+use Rattle.task_core.specs.StackInvariant.{IsTaskOf}
 use Rattle.cpu_core.specs.Turns.{any_left}
 use Rattle.cpu_core.proofs.Changed.{more-left}
-use Rattle.cpu_core.proofs.FitsThere.{task-there}
+use Rattle.cpu_core.proofs.LoadWords.{task-there}
 use Rattle.cpu_core.proofs.Lookups.{state-at, view-is}
 use Rattle.cpu_core.proofs.Untold.{untold-there}
 use Rattle.task_core.proofs.RowMoments.{load-loud, mark-loud}
 use Rattle.task_core.proofs.RowContexts.{open-is}
 use Rattle.task_core.proofs.RowOps.{operation-is}
-use Rattle.task_core.proofs.TiedLeft.{act-left}
+use Rattle.task_core.proofs.ActsLeft.{act-left}
 
 -- ## a task before a poll
 

@@ -28,17 +28,17 @@ use Rattle.task_core.specs.declared.moment.Moment.TheVariants.{Polling}
 use Rattle.task_core.specs.declared.task.Task.{Task}
 use Rattle.cpu_core.specs.Cpus.{IsFor, cpu_of, number_or, numbered, numbers, state_or, tasks_by}
 use Rattle.cpu_core.specs.Marks.{no_marks}
-use Rattle.cpu_core.specs.CpuFits.{HasNext, NextAt}
+use Rattle.cpu_core.specs.CpuNeeds.{HasNext, NextAt}
 use Rattle.cpu_core.specs.CpuOps.{runs}
 use Rattle.task_core.specs.Setups.{setup_in}
 use Rattle.task_core.specs.Starts.{HasRoomFor, is_left, task_at_start}
 use Rattle.task_core.specs.States.{is_polling, state_of}
-use Rattle.task_core.specs.Steady.{IsSteady}
+use Rattle.task_core.specs.TaskInvariant.{TaskInvariant}
 use Rattle.cpu_core.specs.Taken.{IsCpuOf}
-use Rattle.task_core.specs.Tied.{IsTaskOf}
+use Rattle.task_core.specs.StackInvariant.{IsTaskOf}
 use Rattle.cpu_core.specs.Turns.{AreStarted, first_left}
 use Rattle.cpu_core.proofs.Lookups.{first-is}
-use Rattle.task_core.proofs.SteadyActs.{steady-start}
+use Rattle.task_core.proofs.InvariantActs.{invariant-start}
 use Rattle.cpu_core.proofs.Turns.{first-turn}
 
 -- a task of a CPU's is one of the job's
@@ -98,9 +98,9 @@ module _ (job : Job) (limited : IsLimited job) where
     same : state_of first ≡ task_start job p.task.0
     same = λ i. record { next = 1; acts = acts i; gone = 0; contexts = []; stack = []; word = 0; moment = task.Polling }
 
-    steady : IsSteady job (state_of first)
-    steady = subst (IsSteady job) (sym same)
-        (steady-start job p.task.0 (each-or (λ t. IsScript job 0 t.acts) job.tasks p.task.0 no_task limited.job'.tasks inside)
+    steady : TaskInvariant job (state_of first)
+    steady = subst (TaskInvariant job) (sym same)
+        (invariant-start job p.task.0 (each-or (λ t. IsScript job 0 t.acts) job.tasks p.task.0 no_task limited.job'.tasks inside)
         (each-or (λ t. AreRaised [] t.acts) job.tasks p.task.0 no_task limited.raised inside))
 
     first-begun : HasBegun job first

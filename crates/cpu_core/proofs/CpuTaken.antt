@@ -6,7 +6,7 @@ use Rattle.word_machine.specs.Cpu.{cpu_got, cpu_next}
 use Rattle.word_machine.specs.Laws.{CpuTakes}
 use Rattle.word_machine.specs.Limits.{IsLimited}
 use Rattle.cpu_core.specs.declared.parts.Parts.{Parts}
-use Rattle.cpu_core.specs.CpuFits.{CpuFits}
+use Rattle.cpu_core.specs.CpuNeeds.{CpuFits}
 use Rattle.cpu_core.specs.CpuSteps.{marks_in, stepped}
 use Rattle.cpu_core.specs.Cpus.{IsFor, cpu_of}
 use Rattle.cpu_core.specs.Marks.{HasRoom, Marks}

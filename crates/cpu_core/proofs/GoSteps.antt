@@ -21,10 +21,10 @@ use Rattle.cpu_core.specs.Cpus.{IsFor, IsIn, cpu_of, fetch_step, phase_in}
 use Rattle.task_core.specs.Leads.{is_fetching}
 use Rattle.task_core.specs.Starts.{is_left}
 use Rattle.task_core.specs.States.{is_polling}
-use Rattle.task_core.specs.Tied.{IsTaskOf}
+use Rattle.task_core.specs.StackInvariant.{IsTaskOf}
 use Rattle.cpu_core.specs.Turns.{any_left}
 use Rattle.cpu_core.proofs.CpuNext.{left-any, task-for}
-use Rattle.task_core.proofs.TiedLeft.{act-left}
+use Rattle.task_core.proofs.ActsLeft.{act-left}
 use Rattle.cpu_core.proofs.Untold.{untold-there}
 
 -- ## the present task

@@ -20,11 +20,11 @@ use Rattle.cpu_core.specs.declared.parts.Phase.TheVariants as code
 use Rattle.task_core.specs.declared.moment.Moment.{Moment as CodeMoment}
 use Rattle.task_core.specs.declared.moment.Moment.TheVariants.{Polling}
 use Rattle.task_core.specs.declared.task.Task.{Task}
-use Rattle.cpu_core.specs.CpuFits.{GoFits}
+use Rattle.cpu_core.specs.CpuNeeds.{GoFits}
 use Rattle.cpu_core.specs.CpuOps.{is_running, present_task}
 use Rattle.cpu_core.specs.CpuSteps.{marks_in, stamped, switched, ticked, went}
 use Rattle.cpu_core.specs.Cpus.{IsFor, IsOwn, all_marked, cpu_of}
-use Rattle.task_core.specs.Fits.{TaskFits}
+use Rattle.task_core.specs.TaskNeeds.{TaskFits}
 use Rattle.task_core.specs.Leads.{is_fetching}
 use Rattle.cpu_core.specs.Marks.{HasRoom, Marks}
 use Rattle.task_core.specs.Setups.{setup_in}
@@ -32,10 +32,10 @@ use Rattle.task_core.specs.Starts.{is_unmet}
 use Rattle.task_core.specs.States.{is_polling, moment_of, state_of}
 use Rattle.task_core.specs.TaskOps.{item_in, op_of}
 use Rattle.task_core.specs.TaskSteps.{task_after}
-use Rattle.task_core.specs.Tied.{IsTaskOf}
+use Rattle.task_core.specs.StackInvariant.{IsTaskOf}
 use Rattle.cpu_core.proofs.Changed.{changed-own, own-at, present-changed, with_task}
 use Rattle.cpu_core.proofs.CpuNext.{going-is as going-op-is, more-is, polls-is, task-for}
-use Rattle.cpu_core.proofs.FitsOperation.{task-fits}
+use Rattle.cpu_core.proofs.OperationNeeds.{task-fits}
 use Rattle.cpu_core.proofs.GoSteps.{going-count, running, running-any, running-left}
 use Rattle.cpu_core.proofs.GoStepsMoments.{fetching-is, unmet-is}
 use Rattle.cpu_core.proofs.GoStepsTask.{fetches-once, next-within}
@@ -43,7 +43,7 @@ use Rattle.cpu_core.proofs.Lookups.{get-set, state-at}
 use Rattle.task_core.proofs.Rows.{step-is}
 use Rattle.task_core.proofs.Stays.{stays-of}
 use Rattle.cpu_core.proofs.Switched.{moved-is, own-for, switched-for}
-use Rattle.task_core.proofs.TiedKept.{got-same}
+use Rattle.task_core.proofs.TaskNumbers.{got-same}
 
 -- ## what is marked has room
 

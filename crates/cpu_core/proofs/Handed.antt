@@ -12,7 +12,7 @@ use Rattle.cpu_core.specs.declared.parts.Parts.{Parts}
 use Rattle.cpu_core.specs.declared.parts.Phase.{Phase}
 use Rattle.cpu_core.specs.declared.parts.Phase.TheVariants.{Going, Looked, Answering, StoringAck, StoringQuiet, Over}
 use Rattle.task_core.specs.declared.task.Task.{Task}
-use Rattle.cpu_core.specs.CpuFits.{CpuFits, FitsIn, GoingFits}
+use Rattle.cpu_core.specs.CpuNeeds.{CpuFits, FitsIn, GoingFits}
 use Rattle.cpu_core.specs.CpuOps.{cpu_op, going_op, is_looking, is_running, op_by, phase_op, present_task, told_op}
 use Rattle.cpu_core.specs.CpuSteps.{acked, answered, gone_on, looked, marks_in, poll_on, polling, stamped, stepped, stepped_in, switched, ticked, unmarked, went, went_by, with_step, with_told}
 use Rattle.cpu_core.specs.Cpus.{IsFor, IsIn, all_marked}

@@ -23,7 +23,7 @@ use Rattle.task_core.specs.TaskOps.{top}
 use Rattle.cpu_core.specs.Turns.{any_left, first_left, is_untold, next_left}
 use Rattle.cpu_core.proofs.Numbers.{Agrees, Rises, any-numbers, numbered-at, numbered-set, numbers-set, tasks-rise}
 use Rattle.cpu_core.proofs.Places.{first-case, more-below}
-use Rattle.task_core.proofs.TiedLeft.{quiet-is}
+use Rattle.task_core.proofs.ActsLeft.{quiet-is}
 use Rattle.cpu_core.proofs.Turns.{after-place, drop-get, first-append, first-below, first-number, first-turn, next-turn, turn-left, turn-there}
 
 -- ## acts that are left

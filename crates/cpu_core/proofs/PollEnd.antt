@@ -15,22 +15,22 @@ use Rattle.cpu_core.specs.declared.parts.Parts.{Parts}
 use Rattle.cpu_core.specs.declared.parts.Phase.TheVariants.{Going, Over}
 use Rattle.task_core.specs.declared.moment.Moment.TheVariants.{Polling}
 use Rattle.task_core.specs.declared.task.Task.{Task}
-use Rattle.cpu_core.specs.CpuFits.{CanBeginAct}
+use Rattle.cpu_core.specs.CpuNeeds.{CanBeginAct}
 use Rattle.cpu_core.specs.CpuOps.{present_task}
 use Rattle.cpu_core.specs.CpuSteps.{act_begun, after_poll, switched}
 use Rattle.cpu_core.specs.Cpus.{IsFor, IsOwn, all_marked, cpu_of, number_or, tasks_by}
-use Rattle.task_core.specs.Fits.{CanBegin, HasAct}
+use Rattle.task_core.specs.TaskNeeds.{CanBegin, HasAct}
 use Rattle.task_core.specs.Starts.{is_left}
 use Rattle.task_core.specs.States.{state_of}
 use Rattle.task_core.specs.TaskOps.{present}
 use Rattle.task_core.specs.TaskSteps.{begun}
-use Rattle.task_core.specs.Tied.{IsTaskOf}
+use Rattle.task_core.specs.StackInvariant.{IsTaskOf}
 use Rattle.cpu_core.specs.Turns.{any_left}
 use Rattle.cpu_core.proofs.Begun.{begun-is, begun-of, can-begin_act}
 use Rattle.cpu_core.proofs.Changed.{changed-own, more-left, own-at, with_task}
 use Rattle.cpu_core.proofs.Lookups.{get-set, state-at}
 use Rattle.cpu_core.proofs.Switched.{moved-is, switched-for, switched-marked}
-use Rattle.task_core.proofs.TiedKept.{begun-same}
+use Rattle.task_core.proofs.TaskNumbers.{begun-same}
 
 -- ## what is marked
 

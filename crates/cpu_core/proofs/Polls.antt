@@ -21,7 +21,7 @@ use Rattle.cpu_core.specs.Cpus.{IsFor, IsIn, IsStoring, all_marked, cpu_of, fetc
 use Rattle.task_core.specs.Leads.{is_fetching}
 use Rattle.task_core.specs.Starts.{is_left, view_of}
 use Rattle.task_core.specs.States.{is_polling, state_of}
-use Rattle.task_core.specs.Tied.{IsTaskOf}
+use Rattle.task_core.specs.StackInvariant.{IsTaskOf}
 use Rattle.cpu_core.specs.Turns.{any_left, first_untold, is_untold, told_task}
 use Rattle.cpu_core.proofs.Begun.{before, told-of}
 use Rattle.cpu_core.proofs.Changed.{changed-is, changed-own, more-left, own-at, with_task}
@@ -29,7 +29,7 @@ use Rattle.cpu_core.proofs.GoSteps.{going-count, waiting}
 use Rattle.cpu_core.proofs.Lookups.{state-at, untold-is, view-is}
 use Rattle.cpu_core.proofs.Places.{first-case}
 use Rattle.cpu_core.proofs.PollEnd.{IsPolling, after-for, after-is, after-marked, next-act, next-state}
-use Rattle.cpu_core.proofs.Told.{at-told, left-told}
+use Rattle.cpu_core.proofs.TaskChanges.{at-told, left-told}
 use Rattle.cpu_core.proofs.Untold.{told-before, told-next, untold-there}
 
 -- ## what is marked

@@ -17,7 +17,7 @@ use Rattle.cpu_core.specs.Marks.{Marks}
 use Rattle.task_core.specs.Setups.{setup_in}
 use Rattle.task_core.specs.Starts.{is_left}
 use Rattle.task_core.specs.States.{state_of}
-use Rattle.task_core.specs.Tied.{IsTaskOf}
+use Rattle.task_core.specs.StackInvariant.{IsTaskOf}
 use Rattle.cpu_core.specs.Turns.{any_left, first_untold}
 
 -- ## tasks

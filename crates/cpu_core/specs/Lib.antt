@@ -1,8 +1,8 @@
-pub mod CpuFits
+pub mod CpuNeeds
 pub mod CpuOps
 pub mod CpuSteps
-pub mod KeptMarks
-pub mod KeptTasks
+pub mod MarksInvariant
+pub mod TasksInvariant
 pub mod Marks
 pub mod Turns
 pub mod Cpus

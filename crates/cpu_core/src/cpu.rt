@@ -30,7 +30,7 @@ impl Model for Cpu {
 
     ghost Value = { Parts };
 
-    ghost use Rattle.cpu_core.specs.CpuFits.{HasNext};
+    ghost use Rattle.cpu_core.specs.CpuNeeds.{HasNext};
 
     ghost view = { λ d. d.parts };
 

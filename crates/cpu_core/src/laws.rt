@@ -21,7 +21,7 @@ ghost use Rattle.word_machine.specs.Task.{level_of, opened, quiet_word};
 ghost use Rattle.word_machine.specs.Cpu.{Cpu, cpu_next, polled, with_word};
 ghost use Rattle.word_machine.specs.Laws.{PresentTakes};
 ghost use Rattle.task_core.specs.Framed.{AreFramed};
-ghost use Rattle.task_core.specs.Steady.{IsSteady};
+ghost use Rattle.task_core.specs.TaskInvariant.{TaskInvariant};
 ghost use Rattle.cpu_core.specs.WholePoll.{IsBeforePoll, all_told, cpu_past, is_telling, stores_of};
 
 /// A poll first loads the request. Then it stores the CPU's own word and the words of its tasks, those
@@ -56,15 +56,15 @@ pub fn stacks_stay_framed()
         → AreFramed frames (c ∷ below) → AreFramed frames below }
 {}
 
-/// A task stays steady, by the values that its CPU takes alone: it is so before its first act, if its
+/// A task keeps its invariant, by the values that its CPU takes alone: it is so before its first act, if its
 /// returns have their calls and its interrupts come and go in order; where a poll begins an act or is
 /// done with it; when its word is told; and whatever value that fits its next operation gives.
-pub fn tasks_stay_steady()
+pub fn tasks_keep_their_invariant()
     ensures start { (job : Job) (t : ℕ) → let acts = (get_or job.tasks t no_task).acts in
-        IsScript job 0 acts → AreRaised [] acts → IsSteady job (task_start job t) }
-    ensures begun { (job : Job) (x : TaskState) → IsSteady job x → x.moment ≡ Polling → has_acts x.acts ≡ true
-        → IsSteady job (begun_act x x.acts) }
-    ensures told { (job : Job) (r : ℕ) (x : TaskState) → IsSteady job x → IsSteady job (with_word r x) }
+        IsScript job 0 acts → AreRaised [] acts → TaskInvariant job (task_start job t) }
+    ensures begun { (job : Job) (x : TaskState) → TaskInvariant job x → x.moment ≡ Polling → has_acts x.acts ≡ true
+        → TaskInvariant job (begun_act x x.acts) }
+    ensures told { (job : Job) (r : ℕ) (x : TaskState) → TaskInvariant job x → TaskInvariant job (with_word r x) }
     ensures got { (job : Job) (t v : ℕ) (x : TaskState) → Each (λ s. IsActNamed job s.act) job.users
-        → IsSteady job x → PresentTakes job x x.moment v → IsSteady job (task_got job t x x.moment v) }
+        → TaskInvariant job x → PresentTakes job x x.moment v → TaskInvariant job (task_got job t x x.moment v) }
 {}

@@ -24,11 +24,11 @@ impl Model for Marked {
 
     ghost Value = { Marks };
 
-    ghost use Rattle.cpu_core.specs.KeptMarks.{marks_of, IsKept};
+    ghost use Rattle.cpu_core.specs.MarksInvariant.{marks_of, MarksInvariant};
 
     ghost view = { marks_of };
 
-    ghost invariant = { IsKept };
+    ghost invariant = { MarksInvariant };
 }
 
 impl Marked {

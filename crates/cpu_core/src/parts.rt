@@ -18,7 +18,7 @@ ghost use Rattle.cpu_core.specs.CpuOps.{cpu_op, going_op, is_looking, is_running
 ghost use Rattle.cpu_core.specs.CpuSteps.{acked, after_poll, answered, gone_on, looked, poll_on, polling, stepped, switched, ticked, unmarked, went, with_told};
 ghost use Rattle.cpu_core.specs.Turns.{HaveTold};
 ghost use Rattle.task_core.specs.TaskOps.{item_in};
-ghost use Rattle.cpu_core.specs.CpuFits.{CanGoOn, CanSwitch, CpuFits, GoFits, GoingFits, HasNext, IsGoingThere, QuietFits, StartFits};
+ghost use Rattle.cpu_core.specs.CpuNeeds.{CanGoOn, CanSwitch, CpuFits, GoFits, GoingFits, HasNext, IsGoingThere, QuietFits, StartFits};
 
 use crate::marked::Marked;
 use crate::tasks::Tasks;

@@ -3,7 +3,7 @@
 ghost use Rattle.std.specs.Prelude.{◌≡◌, ◌<◌, ◌≤◌, ◌⊎◌, if◌then◌else◌, suc, length, set, slice_get, Some, None, All, IfOk, IsSomeAnd};
 ghost use Rattle.ft_base.specs.declared.limits.TheConstants.{ACTS, FRAMES, GUARD_LEVELS, TASKS};
 ghost use Rattle.user_specs.specs.declared.plan.TaskPlan.{TaskPlan as DeclaredPlan};
-ghost use Rattle.task_core.specs.Fits.{CanBegin, HasAct, TaskFits};
+ghost use Rattle.task_core.specs.TaskNeeds.{CanBegin, HasAct, TaskFits};
 ghost use Rattle.task_core.specs.TaskOps.{item_in, op_of, present};
 ghost use Rattle.task_core.specs.TaskSteps.{begun, task_after};
 ghost use Rattle.cpu_core.specs.Turns.{AreStarted, HaveTold, RestTold, any_left, first_left, first_untold, is_untold, left_from, next_left, told_task, untold_from};
@@ -32,11 +32,11 @@ impl Model for Tasks {
 
     ghost Value = { List Task };
 
-    ghost use Rattle.cpu_core.specs.KeptTasks.{tasks_of, IsKept};
+    ghost use Rattle.cpu_core.specs.TasksInvariant.{tasks_of, TasksInvariant};
 
     ghost view = { tasks_of };
 
-    ghost invariant = { IsKept };
+    ghost invariant = { TasksInvariant };
 }
 
 impl Tasks {

@@ -12,7 +12,7 @@ use Rattle.ft_base.proofs.Small.{==-refl}
 use Rattle.desk_lock.specs.declared.served.Served1.{Served1}
 use Rattle.desk_lock.specs.declared.lane.Lane.{Lane}
 use Rattle.desk_lock.specs.Journals.{IsInOrder, IsMerge, done_of, items_of, next_of, pair}
-use Rattle.desk_lock.specs.Held.{Held, IsHeld, LanePlace, lanes_from, left_in, seats_from}
+use Rattle.desk_lock.specs.LockInvariant.{LockView, LockInvariant, LanePlace, lanes_from, left_in, seats_from}
 
 -- two numbers are one, or not
 pub same_or_not : (a b : ℕ) → ((a ≡ b) × ((a == b) ≡ true)) ⊎ ((a ≢ b) × ((a == b) ≡ false))
@@ -127,11 +127,11 @@ in_order counts j l o in' left = record {
 
 -- ## under the lock
 
-pub held_count : {counts name own own_name : List ℕ} {served j : List Served1} {lanes : List Lane} {room : ℕ} → IsHeld counts name own own_name served j lanes room → length lanes ≡ length counts
+pub held_count : {counts name own own_name : List ℕ} {served j : List Served1} {lanes : List Lane} {room : ℕ} → LockInvariant counts name own own_name served j lanes room → length lanes ≡ length counts
 held_count {counts = counts} {j = j} h = ap length h.lanes' ∙ lanes_count 0 counts j
 
 -- with x in the place of lane l
-module _ {counts name own own_name : List ℕ} {served j : List Served1} {lanes : List Lane} {room l : ℕ} {x : Lane} (h : IsHeld counts name own own_name served j lanes room) (lt : l < length counts) (at : x ≡ get_or lanes l x) where
+module _ {counts name own own_name : List ℕ} {served j : List Served1} {lanes : List Lane} {room l : ℕ} {x : Lane} (h : LockInvariant counts name own own_name served j lanes room) (lt : l < length counts) (at : x ≡ get_or lanes l x) where
   own_lane : x ≡ record { count = slice_index counts l; next = done_of l j }
   own_lane = at ∙ ap (λ (ls : List Lane). get_or ls l x) h.lanes' ∙ lane_at counts j l lt x
 
@@ -161,7 +161,7 @@ module _ {counts name own own_name : List ℕ} {served j : List Served1} {lanes 
 
   -- and after it all is kept
   pub held_more : x.next < x.count → {own2 own_name2 : List ℕ} {served2 j2 : List Served1} {lanes2 : List Lane} → own2 ≡ own → own_name2 ≡ own_name → served2 ≡ served ++ pair l x.next ∷ []
-      → j2 ≡ j ++ pair l x.next ∷ [] → lanes2 ≡ set lanes l (record { count = x.count; next = x.next + 1 }) → IsHeld counts name own2 own_name2 served2 j2 lanes2 room
+      → j2 ≡ j ++ pair l x.next ∷ [] → lanes2 ≡ set lanes l (record { count = x.count; next = x.next + 1 }) → LockInvariant counts name own2 own_name2 served2 j2 lanes2 room
   held_more left {j2 = j2} os ns ss js ls =
       let e = held_next in
       let f = held_of in
@@ -217,7 +217,7 @@ left_at_first b [] = refl
 left_at_first b (n ∷ ns) = let e = left_at_first (suc b) ns in omega (arith, e, sum_by-cons left_in (record { count = n; next = 0 }) (lanes_from (suc b) ns []), sum_by-cons (λ (m : ℕ). m) n ns)
 
 pub held_first : (counts name own own_name : List ℕ) (served : List Served1) (lanes : List Lane) (room : ℕ) → own ≡ counts → own_name ≡ name → served ≡ [] → lanes ≡ lanes_from 0 counts [] → length counts ≤ LANES
-    → sum counts ≤ room → IsHeld counts name own own_name served [] lanes room
+    → sum counts ≤ room → LockInvariant counts name own own_name served [] lanes room
 held_first counts name own own_name served lanes room os ns fresh ls few enough = record {
   counts' = os;
   name' = ns;
@@ -242,7 +242,7 @@ less_left n a b true left is did none = rw is (let y = did refl in omega (arith,
 less_left n a b false left is did none = rw is (let y = none refl in omega (arith, y))
 
 -- a turn of lane l, which has n items; it may find nothing left
-module _ {T : Type 0} (n l : ℕ) (old new : Held T) (more : Bool) (left : IsTrue more ↔ (done_of l old.journal < n)) (served : OnTrue more (new.journal ≡ old.journal ++ next_of l old.journal ∷ [])) (all : OnFalse more (done_of l old.journal ≡ n)) (none : OnFalse more (new ≡ old)) where
+module _ {T : Type 0} (n l : ℕ) (old new : LockView T) (more : Bool) (left : IsTrue more ↔ (done_of l old.journal < n)) (served : OnTrue more (new.journal ≡ old.journal ++ next_of l old.journal ∷ [])) (all : OnFalse more (done_of l old.journal ≡ n)) (none : OnFalse more (new ≡ old)) where
   same : more ≡ false → new.journal ≡ old.journal
   same e = ap (λ h. h.journal) (OnFalse_at e none)
 

@@ -2,7 +2,7 @@
 
 ghost use Rattle.std.specs.Prelude.{◌≡◌, ◌≤◌, [], sum, IfOk};
 ghost use Rattle.ft_base.specs.declared.limits.TheConstants.{COMMANDS};
-ghost use Rattle.desk_lock.specs.Held.{lanes_from};
+ghost use Rattle.desk_lock.specs.LockInvariant.{lanes_from};
 
 use std::alloc::{AllocError, Global};
 

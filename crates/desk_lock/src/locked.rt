@@ -21,13 +21,13 @@ pub struct Locked<T: Served, N: LaneNames> {
 
 impl<T: Served, N: LaneNames> Model for Locked<T, N> {
     ghost use Rattle.std.specs.Prelude.{vec_capacity};
-    ghost use Rattle.desk_lock.specs.Held.{Held, IsHeld};
+    ghost use Rattle.desk_lock.specs.LockInvariant.{LockView, LockInvariant};
 
-    ghost Value = { Held T };
+    ghost Value = { LockView T };
 
     ghost view = { λ s. record { value = s.value; journal = s.journal.items } };
 
-    ghost invariant = { λ s. IsHeld N.counts N.name (T.counts s.value) (T.name s.value) (T.served s.value) s.journal.items s.lanes.items (vec_capacity s.journal) };
+    ghost invariant = { λ s. LockInvariant N.counts N.name (T.counts s.value) (T.name s.value) (T.served s.value) s.journal.items s.lanes.items (vec_capacity s.journal) };
 }
 
 impl<T: Served, N: LaneNames> Locked<T, N> {

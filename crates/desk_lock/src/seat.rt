@@ -2,7 +2,7 @@
 
 ghost use Rattle.std.specs.Prelude.{◌≡◌, ◌≤◌, length, IfOk};
 ghost use Rattle.ft_base.specs.declared.limits.TheConstants.{LANES};
-ghost use Rattle.desk_lock.specs.Held.{seats_from};
+ghost use Rattle.desk_lock.specs.LockInvariant.{seats_from};
 
 use crate::served::LaneNames;
 use std::alloc::{AllocError, Global};
@@ -20,7 +20,7 @@ pub struct LaneSeat<N: LaneNames> {
 }
 
 impl<N: LaneNames> Model for LaneSeat<N> {
-    ghost use Rattle.desk_lock.specs.Held.{LanePlace, IsSeat};
+    ghost use Rattle.desk_lock.specs.LockInvariant.{LanePlace, IsSeat};
 
     ghost Value = { LanePlace };
 

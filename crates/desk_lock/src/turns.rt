@@ -3,7 +3,7 @@
 ghost use Rattle.std.specs.Prelude.{◌≡◌, ◌<◌, ◌≤◌, ◌↔◌, [], length, sum, IsTrue, IfOk, IfErr};
 ghost use Rattle.std.specs.Bool.{OnTrue, OnFalse};
 ghost use Rattle.ft_base.specs.declared.limits.TheConstants.{COMMANDS, LANES};
-ghost use Rattle.desk_lock.specs.Held.{one_more, seats_from};
+ghost use Rattle.desk_lock.specs.LockInvariant.{one_more, seats_from};
 ghost use Rattle.desk_lock.specs.Journals.{IsMerge};
 
 use crate::lane::{first_lanes, total};

@@ -1,7 +1,7 @@
 -- What a filter text means over a list of functions: which of them it selects, and which edit it is.
 use Rattle.std.specs.Prelude.{zero, suc, ◌&&◌, Bool, true, false, not, List, [], ◌∷◌, map, length, slice_set, Option, Some, None, if◌then◌else◌}
 use Rattle.glob_filter.specs.Items.{Item, items_of}
-use Rattle.glob_filter.specs.Fits.{is_fit}
+use Rattle.glob_filter.specs.Matching.{is_fit}
 use Rattle.ft_base.specs.Marks.{Marks, empty}
 use Rattle.ft_base.specs.Job.{Func, Edit}
 use Rattle.filter_commands.specs.Forms.{Text, TextForm, line, named, in_module, unmarked, form_of, glob_or_all}

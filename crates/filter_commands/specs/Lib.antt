@@ -1,6 +1,6 @@
 pub mod Forms
 pub mod Causes
 pub mod Edits
-pub mod Kept
+pub mod Meanings
 pub mod Grammar
 pub mod Triggers

@@ -4,7 +4,7 @@ ghost use Rattle.std.specs.Prelude.{◌≡◌, ◌==◌, option_map, IfSome};
 ghost use Rattle.std.specs.List.{list_all};
 ghost use Rattle.std.specs.Char.{is_ascii_digit};
 ghost use Rattle.filter_commands.specs.Forms.{has_colon, is_number, unmarked, module_form, form_of};
-ghost use Rattle.filter_commands.specs.Kept.{form_read, HasDigits};
+ghost use Rattle.filter_commands.specs.Meanings.{form_read, HasDigits};
 
 /// The form of a filter text without its mark.
 pub enum TextForm<'a> {

@@ -7,7 +7,7 @@ ghost use Rattle.ft_base.specs.Marks.{holds};
 ghost use Rattle.filter_commands.specs.Causes.{is_bad_glob, has_bad_glob, IsCause};
 ghost use Rattle.filter_commands.specs.Forms.{named, in_module, glob_or_all};
 ghost use Rattle.filter_commands.specs.Edits.{passes};
-ghost use Rattle.filter_commands.specs.Kept.{takes};
+ghost use Rattle.filter_commands.specs.Meanings.{takes};
 
 use crate::faults::EditFault;
 use ft_base::FuncNo;

@@ -3,7 +3,7 @@
 ghost use Rattle.std.specs.Prelude.{◌≡◌, ◌≤◌, option_map, IfSome};
 ghost use Rattle.ft_base.specs.declared.limits.TheConstants.{TRIGGER_LIMIT};
 ghost use Rattle.filter_commands.specs.Triggers.{switch_of, limit_of, form_after, trigger_form};
-ghost use Rattle.filter_commands.specs.Kept.{trigger_read};
+ghost use Rattle.filter_commands.specs.Meanings.{trigger_read};
 
 use crate::forms::is_number;
 use crate::numbers::number_to;

@@ -7,7 +7,7 @@ ghost use Rattle.filter_commands.specs.Causes.{is_bad_glob};
 ghost use Rattle.filter_commands.specs.Edits.{selected};
 ghost use Rattle.filter_commands.specs.Forms.{named};
 ghost use Rattle.filter_commands.specs.Triggers.{trigger_of, trigger_cause};
-ghost use Rattle.filter_commands.specs.Kept.{plain_trigger};
+ghost use Rattle.filter_commands.specs.Meanings.{plain_trigger};
 
 use crate::faults::TriggerFault;
 use crate::selector::Selector;

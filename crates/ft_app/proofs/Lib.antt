@@ -1,5 +1,5 @@
 pub mod Histories
-pub mod KeptRings
+pub mod HistoryRings
 pub mod Replies
 pub mod Orders
 pub mod WrittenLogs

@@ -20,7 +20,7 @@ use Rattle.ring_rules.specs.Fold.{Rings}
 use Rattle.script_jobs.specs.Merges.{IsMergeOf}
 use Rattle.ft_app.specs.Reply.{IsKeptFor, printed}
 use Rattle.ft_app.specs.Main.{ReadWhole, IsLogged, HasRun}
-use Rattle.ft_app.proofs.KeptRings.{printed-without}
+use Rattle.ft_app.proofs.HistoryRings.{printed-without}
 
 -- scripts that were read from the same bytes have the same job
 same-job : (given left s s' : List ℕ) (j j' : Job) → ReadWhole (Some given) (Some left) s → ReadWhole (Some given) (Some left) s' → IsJobOf s j → IsJobOf s' j' → j ≡ j'

@@ -16,7 +16,7 @@ use Rattle.ft_desk.specs.declared.user.User.{User}
 use Rattle.ft_desk.specs.declared.roster.Roster.TheInside.{Inside}
 use Rattle.ft_desk.specs.Users.{desk_by, is_at, spec_by, state_of, user_of}
 use Rattle.ft_desk.specs.Rosters.{job_by}
-use Rattle.ft_desk.specs.KeptRosters.{IsKept, no_holder, users_of}
+use Rattle.ft_desk.specs.RosterInvariant.{RosterInvariant, no_holder, users_of}
 use Rattle.ft_desk.proofs.SumLaws.{user_at-is}
 
 pub spec_at-is : (users : List User) (u : ℕ) → get_or (map spec_by users) u plain_spec ≡ spec_by (user_of users u)
@@ -33,7 +33,7 @@ held-order false false m = refl
 pub funcs-is : (n : ℕ) → length (replicate n no_func) ≡ n
 funcs-is n = length-replicate {A = Func} n no_func
 
-module _ (r : Inside) (k : IsKept r) where
+module _ (r : Inside) (k : RosterInvariant r) where
   holder-at : (v : ℕ) (h : Holder) → slice_get r.holders.items v ≡ Some h → (v < length r.users.items) × (h ≡ get_or r.holders.items v no_holder)
   holder-at v h e = elim (slice_get_cases r.holders.items v).1 [
     | inl x ↦ ((let n = k.holders in let s = x.1 in omega (arith, n, s)), sym (get_or_from_slice_get r.holders.items v h no_holder e))

@@ -9,7 +9,7 @@ use Rattle.ft_base.proofs.Small.{false_true, ==-refl}
 use Rattle.tramp_slots.specs.Holders.{Holders, holder_of, is_free_slot}
 use Rattle.ft_desk.specs.declared.user.User.{User}
 use Rattle.ft_desk.specs.declared.desk.Desk.TheInside.{Inside}
-use Rattle.ft_desk.specs.KeptDesks.{IsKept, times}
+use Rattle.ft_desk.specs.DeskInvariant.{DeskInvariant, times}
 use Rattle.word_map.specs.Contents.{digit}
 use Rattle.ft_desk.specs.Plans.{user_no}
 use Rattle.ft_desk.specs.Users.{enrolled, no_user, retired, user_of}
@@ -58,7 +58,7 @@ filter-room p (x ∷ users) (suc u) h a = by (p x) (filter-room p users u (omega
 
 -- ## registered
 
-module _ (d d' : Inside) (k : IsKept d) (user : UserNo) (since : ℕ) (slot : Option ℕ) (within : user.0 < length d.roster.users)
+module _ (d d' : Inside) (k : DeskInvariant d) (user : UserNo) (since : ℕ) (slot : Option ℕ) (within : user.0 < length d.roster.users)
     (not_yet : (user_of d.roster.users user.0).registered ≡ false)
     (eu : d'.roster.users ≡ set d.roster.users user.0 (enrolled since slot (user_of d.roster.users user.0))) (ef : d'.roster.funcs ≡ d.roster.funcs)
     (some : (s : ℕ) → slot ≡ Some s → (s < length d.slots) × (is_free_slot d.slots s ≡ true) × (d'.slots ≡ set d.slots s (Some user)))
@@ -133,7 +133,7 @@ module _ (d d' : Inside) (k : IsKept d) (user : UserNo) (since : ℕ) (slot : Op
     | inr ne ↦ (let a = k.numbers v (omega (arith, n', small)) in let b : (user_of d'.roster.users v).reg ≡ (user_of d.roster.users v).reg = ap (λ (x : User). x.reg) (others v ne) in omega (arith, a, b, en))
   ]
 
-  pub kept-enrolled : IsKept d'
+  pub kept-enrolled : DeskInvariant d'
   kept-enrolled = record {
     slots = record { held = held'; holds = holds' };
     listed = record {
@@ -179,7 +179,7 @@ length-without u (w ∷ order) = by (w.0 == u) (length-without u order)
     by true r = omega (arith, r)
     by false r = omega (arith, r)
 
-module _ (d d' : Inside) (k : IsKept d) (user : UserNo) (slot : Option ℕ) (within : user.0 < length d.roster.users)
+module _ (d d' : Inside) (k : DeskInvariant d) (user : UserNo) (slot : Option ℕ) (within : user.0 < length d.roster.users)
     (there : (user_of d.roster.users user.0).registered ≡ true) (at : slot ≡ (user_of d.roster.users user.0).slot)
     (eu : d'.roster.users ≡ set d.roster.users user.0 (retired (user_of d.roster.users user.0))) (ef : d'.roster.funcs ≡ d.roster.funcs)
     (some : (s : ℕ) → slot ≡ Some s → d'.slots ≡ set d.slots s None) (none : slot ≡ None → d'.slots ≡ d.slots)
@@ -233,7 +233,7 @@ module _ (d d' : Inside) (k : IsKept d) (user : UserNo) (slot : Option ℕ) (wit
   off-now : (user_of d'.roster.users user.0).registered ≡ false
   off-now = ap (λ (x : User). x.registered) gone-at
 
-  pub kept-retired : IsKept d'
+  pub kept-retired : DeskInvariant d'
   kept-retired = record {
     slots = record {
       held = λ v s small reg h. (let ne : v ≢ user.0 = λ q. false_true (sym off-now ∙ ap (λ (i : ℕ). (user_of d'.roster.users i).registered) (sym q) ∙ reg) in

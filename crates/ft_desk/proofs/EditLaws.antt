@@ -14,7 +14,7 @@ use Rattle.ft_desk.specs.declared.user.User.{User}
 use Rattle.ft_desk.specs.declared.roster.Roster.TheInside.{Inside}
 use Rattle.word_map.specs.Instructions.{insn_at}
 use Rattle.ft_desk.specs.Users.{desk_by, edited_pair, edited_user, is_at, no_user, number_at, one_at, regs_at, modifier_at, row_by, sum_over, switched, total_by, user_of}
-use Rattle.ft_desk.specs.KeptRosters.{IsHeld, IsKept, IsSized, no_holder}
+use Rattle.ft_desk.specs.RosterInvariant.{IsHolderOf, RosterInvariant, IsSized, no_holder}
 use Rattle.ft_desk.proofs.SumLaws.{sum_over-set}
 use Rattle.ft_desk.proofs.RosterLaws.{insn-known}
 use Rattle.ft_desk.proofs.StepLaws.{IsStep}
@@ -24,7 +24,7 @@ sized-edited n Filter e pair s = record { filter = length-edited (size_of pair) 
 sized-edited n Notrace e pair s = record { filter = s.filter; notrace = length-edited (size_of pair) pair.notrace e (s.notrace ∙ sym s.filter) ∙ s.filter }
 
 -- x0 tells whether the user is registered; x1 to x3 are the user before, y after, and z is y
-module _ (r : Inside) (k : IsKept r) (u : ℕ) (half : Half) (e : Edit) (x0 x1 x2 x3 y z : User) (old again new came left : Marks) (within : u < length r.users.items)
+module _ (r : Inside) (k : RosterInvariant r) (u : ℕ) (half : Half) (e : Edit) (x0 x1 x2 x3 y z : User) (old again new came left : Marks) (within : u < length r.users.items)
     (e0 : x0 ≡ get_or r.users.items u x0) (e1 : x1 ≡ get_or r.users.items u x1) (e2 : x2 ≡ get_or r.users.items u x2) (e3 : x3 ≡ get_or r.users.items u x3)
     (ey : y ≡ edited_user half e x3) (ez : z ≡ get_or (set r.users.items u y) u z) where
   xs : (x : User) → x ≡ get_or r.users.items u x → x ≡ user_of r.users.items u
@@ -128,7 +128,7 @@ module _ (users : List User) (u : ℕ) (y : User) (within : u < length users) (s
       (sym (sum-still (one_at f) (ap (λ b. cond b 1 0) (s.at f)))) (sym (total-still f)))
       ∙ insn-known users users f (sum_over (one_at f) 0 users) (total_by users f) (λ v there. refl) refl refl
 
-module _ (r : Inside) (k : IsKept r) (u : ℕ) (x y : User) (within : u < length r.users.items) (ex : x ≡ get_or r.users.items u x) (enabled : Bool)
+module _ (r : Inside) (k : RosterInvariant r) (u : ℕ) (x y : User) (within : u < length r.users.items) (ex : x ≡ get_or r.users.items u x) (enabled : Bool)
     (ey : y ≡ switched enabled x) where
   same-sites : SameSites (user_of r.users.items u) y
   same-sites =
@@ -147,7 +147,7 @@ module _ (r : Inside) (k : IsKept r) (u : ℕ) (x y : User) (within : u < length
   switch-sites f = insn-still r.users.items u y within same-sites f
 
   pub switch-kept : (r' : Inside) → r'.users.items ≡ set r.users.items u y → r'.counts ≡ r.counts → r'.totals ≡ r.totals → r'.holders ≡ r.holders → r'.room ≡ r.room
-      → IsKept r'
+      → RosterInvariant r'
   switch-kept r' eu ec et eh er =
       let n' : length r'.users.items ≡ length r.users.items = ap length eu ∙ length-set r.users.items u y in
       record {
@@ -168,14 +168,14 @@ module _ (r : Inside) (k : IsKept r) (u : ℕ) (x y : User) (within : u < length
         | inr ne ↦ subst (λ (w : User). IsSized (length r.counts) w.pair) (sym (get_or-set_other r.users.items u v y no_user ne)) (k.pairs v small)
       ]
 
-      held-still : IsHeld (length r.counts) u y (get_or r.holders.items u no_holder)
+      held-still : IsHolderOf (length r.counts) u y (get_or r.holders.items u no_holder)
       held-still =
           let h = k.held u within in
           record { user = h.user; size = h.size; on = λ f. h.on f ∙ ap₂ (λ a b. is_some a && (nat_lt f (length r.counts) && b)) (sym same-sites.ipmodify) (sym (same-sites.at f)) }
 
-      held-at : (v : ℕ) → v < length r.users.items → IsHeld (length r.counts) v (user_of (set r.users.items u y) v) (get_or r.holders.items v no_holder)
+      held-at : (v : ℕ) → v < length r.users.items → IsHolderOf (length r.counts) v (user_of (set r.users.items u y) v) (get_or r.holders.items v no_holder)
       held-at v small = elim (cases_eq v u) [
-        | inl i ↦ subst (λ (w : ℕ). IsHeld (length r.counts) w (user_of (set r.users.items u y) w) (get_or r.holders.items w no_holder)) (sym i)
-            (subst (λ (w : User). IsHeld (length r.counts) u w (get_or r.holders.items u no_holder)) (sym (get_or-set_same r.users.items u y no_user within)) held-still)
-        | inr ne ↦ subst (λ (w : User). IsHeld (length r.counts) v w (get_or r.holders.items v no_holder)) (sym (get_or-set_other r.users.items u v y no_user ne)) (k.held v small)
+        | inl i ↦ subst (λ (w : ℕ). IsHolderOf (length r.counts) w (user_of (set r.users.items u y) w) (get_or r.holders.items w no_holder)) (sym i)
+            (subst (λ (w : User). IsHolderOf (length r.counts) u w (get_or r.holders.items u no_holder)) (sym (get_or-set_same r.users.items u y no_user within)) held-still)
+        | inr ne ↦ subst (λ (w : User). IsHolderOf (length r.counts) v w (get_or r.holders.items v no_holder)) (sym (get_or-set_other r.users.items u v y no_user ne)) (k.held v small)
       ]

@@ -7,7 +7,7 @@ use Rattle.ft_base.specs.declared.item.Answer.TheVariants.{Accepted, Already, No
 use Rattle.ft_base.specs.Job.{Command, Ctl, Run, Until, commands_in}
 use Rattle.ft_base.specs.Desk.{is_accepted}
 use Rattle.ft_desk.specs.declared.command.Ctl.{Ctl as Line}
-use Rattle.ft_desk.specs.Seen.{Seen, after_command, answer, carried_out, turned_down}
+use Rattle.ft_desk.specs.DeskView.{DeskView, after_command, answer, carried_out, turned_down}
 
 -- ## the lines of a job
 
@@ -45,7 +45,7 @@ line-at xs items i x y same lt at' is =
     ap (λ (zs : List Line). slice_get zs i) (sym same) ∙ slice_get-get_or xs i x lt ∙ ap Some (sym at' ∙ is)
 
 -- the answer tells what the desk is after a command
-pub planned : (a : Answer) (s next : Seen) (x : Command) → a ≡ answer s x → (a ≡ Accepted → next ≡ carried_out s x)
+pub planned : (a : Answer) (s next : DeskView) (x : Command) → a ≡ answer s x → (a ≡ Accepted → next ≡ carried_out s x)
     → (a ≢ Accepted → next ≡ turned_down s) → next ≡ after_command s x
 planned Accepted s next x e ok refused = ok refl ∙ ap (λ a. cond (is_accepted a) (carried_out s x) (turned_down s)) e
 planned Already s next x e ok refused = refused (λ h. cc) ∙ ap (λ a. cond (is_accepted a) (carried_out s x) (turned_down s)) e
@@ -54,8 +54,8 @@ planned Invalid s next x e ok refused = refused (λ h. cc) ∙ ap (λ a. cond (i
 planned NoMatch s next x e ok refused = refused (λ h. cc) ∙ ap (λ a. cond (is_accepted a) (carried_out s x) (turned_down s)) e
 planned (Busy f u) s next x e ok refused = refused (λ h. cc) ∙ ap (λ a. cond (is_accepted a) (carried_out s x) (turned_down s)) e
 
-pub commands-after : (s : Seen) (c : Command) → (after_command s c).commands ≡ suc s.commands
+pub commands-after : (s : DeskView) (c : Command) → (after_command s c).commands ≡ suc s.commands
 commands-after s c = elim (is_accepted (answer s c)) as (λ b. (cond b (carried_out s c) (turned_down s)).commands ≡ suc s.commands) [ true ↦ refl | false ↦ refl ]
 
-pub declared-after : (s : Seen) (c : Command) → (after_command s c).declared ≡ s.declared
+pub declared-after : (s : DeskView) (c : Command) → (after_command s c).declared ≡ s.declared
 declared-after s c = elim (is_accepted (answer s c)) as (λ b. (cond b (carried_out s c) (turned_down s)).declared ≡ s.declared) [ true ↦ refl | false ↦ refl ]

@@ -13,7 +13,7 @@ use Rattle.site_counts.specs.Rows.{row_of, no_users}
 use Rattle.ft_desk.specs.declared.user.User.{User}
 use Rattle.ft_desk.specs.declared.roster.Roster.TheInside.{Inside}
 use Rattle.ft_desk.specs.Users.{declared_as, is_at, modifier_at, number_at, one_at, regs_at, row_by, sum_over, total_by, user_of}
-use Rattle.ft_desk.specs.KeptRosters.{IsKept, IsRoom, no_holder}
+use Rattle.ft_desk.specs.RosterInvariant.{RosterInvariant, IsRoom, no_holder}
 
 module _ (n : ℕ) where
   sum-none : (g : ℕ → User → ℕ) (from : ℕ) (specs : List Spec) → ((u : ℕ) (s : Spec) → g u (declared_as n s) ≡ 0)
@@ -36,7 +36,7 @@ module _ (n : ℕ) where
   pub new-kept : (r : Inside) (specs : List Spec) → length specs ≤ USERS → r.users.items ≡ map (declared_as n) specs → length r.counts ≡ n
       → ((f : ℕ) → row_of r.counts f ≡ no_users) → length r.totals.items ≡ n → ((f : ℕ) → f < n → get_or r.totals.items f 0 ≡ 0)
       → length r.holders.items ≡ length specs → ((u : ℕ) → u < length specs → get_or r.holders.items u no_holder ≡ record { user = record { 0 = u }; on = empty n })
-      → IsRoom n r.room → IsKept r
+      → IsRoom n r.room → RosterInvariant r
   new-kept r specs few eu ec rows et totals eh holders room =
       let size : length r.users.items ≡ length specs = ap length eu ∙ length-map specs (declared_as n) in
       record {

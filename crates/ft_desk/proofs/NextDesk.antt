@@ -5,10 +5,10 @@ use Rattle.ft_base.specs.Job.{Job, Command, commands}
 use Rattle.ft_base.specs.Desk.{Desk, desk, after, answer_on, changed, is_accepted}
 use Rattle.ft_base.proofs.DeskLaws.{desk-suc}
 use Rattle.ft_desk.specs.Declarations.{IsOf, job_of}
-use Rattle.ft_desk.specs.Seen.{Seen, answer, after_command, carried_out, turned_down}
+use Rattle.ft_desk.specs.DeskView.{DeskView, answer, after_command, carried_out, turned_down}
 use Rattle.ft_desk.proofs.JobLaws.{answer-is, next-is}
 
-module _ (job : Job) (s : Seen) (d : ℕ) (c : Command) (is : IsOf job s.declared) (same : s.state ≡ desk job d) where
+module _ (job : Job) (s : DeskView) (d : ℕ) (c : Command) (is : IsOf job s.declared) (same : s.state ≡ desk job d) where
   -- the answer is that of the job's desk
   pub answers : answer s c ≡ answer_on job (desk job d) c
   answers = answer-is job s.declared is s.state c ∙ ap (λ (D : Desk). answer_on job D c) same
@@ -43,5 +43,5 @@ module _ (job : Job) (s : Seen) (d : ℕ) (c : Command) (is : IsOf job s.declare
       state-same = by (is_accepted (answer_on job (desk job d) c)) refl
         where
           by : (b : Bool) → is_accepted (answer_on job (desk job d) c) ≡ b → (after_command s c).state ≡ desk job (suc d)
-          by true e = ap (λ (t : Seen). t.state) (if_accepted e) ∙ next-same e
-          by false e = ap (λ (t : Seen). t.state) (if_refused e) ∙ same ∙ sym (next_by false e)
+          by true e = ap (λ (t : DeskView). t.state) (if_accepted e) ∙ next-same e
+          by false e = ap (λ (t : DeskView). t.state) (if_refused e) ∙ same ∙ sym (next_by false e)

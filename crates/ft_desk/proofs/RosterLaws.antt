@@ -7,7 +7,7 @@ use Rattle.ft_base.specs.Marks.{Marks, holds, union, difference}
 use Rattle.ft_base.proofs.Small.{false_true, and-false}
 use Rattle.ft_base.specs.declared.number.UserNo.{UserNo}
 use Rattle.ipmodify.specs.declared.conflicts.Holder.{Holder}
-use Rattle.ft_desk.specs.KeptRosters.{IsHeld}
+use Rattle.ft_desk.specs.RosterInvariant.{IsHolderOf}
 use Rattle.site_set.proofs.MarksLemmas.{holds-union, holds-difference, length-union, length-difference}
 use Rattle.site_counts.specs.declared.rows.Row.{Row}
 use Rattle.site_counts.specs.Rows.{one_if, HasRoom, HasUser}
@@ -209,7 +209,7 @@ held-moved false true = refl
 held-moved false false = refl
 
 -- what a holder has after its user has changed
-module _ (n u : ℕ) (x y : User) (came left : Marks) (h h' : Holder) (move : IsMove n x y came left) (same : SameKind x y) (before : IsHeld n u x h)
+module _ (n u : ℕ) (x y : User) (came left : Marks) (h h' : Holder) (move : IsMove n x y came left) (same : SameKind x y) (before : IsHolderOf n u x h)
     (user' : h'.user ≡ h.user) (on' : h'.on ≡ cond (is_some y.ipmodify) (union (difference h.on left) came) h.on) where
   on_size : (m : Bool) → h'.on ≡ cond m (union (difference h.on left) came) h.on → length h'.on ≡ n
   on_size true e = ap (λ (s : Marks). length s) e ∙ length-union (difference h.on left) came ∙ length-difference h.on left ∙ before.size
@@ -234,7 +234,7 @@ module _ (n u : ℕ) (x y : User) (came left : Marks) (h h' : Holder) (move : Is
       let size = on_size (is_some y.ipmodify) on' in
       get_or_past h'.on f false (omega (arith, size)) ∙ sym (ap (λ a. is_some y.ipmodify && (a && is_at f y)) (le-ltb f n past) ∙ and-false (is_some y.ipmodify))
 
-  pub held-after : IsHeld n u y h'
+  pub held-after : IsHolderOf n u y h'
   held-after = record {
     user = ap (λ (w : UserNo). w.0) user' ∙ before.user;
     size = on_size (is_some y.ipmodify) on';

@@ -16,9 +16,9 @@ use Rattle.word_map.specs.Instructions.{insn_at}
 use Rattle.ft_desk.specs.Sites.{changed_sites}
 use Rattle.ft_desk.specs.Users.{desk_by, enrolled, retired, no_user, user_of}
 use Rattle.ft_desk.specs.Moves.{moved, moved_row, MayMove, insn_before, insn_after}
-use Rattle.ft_desk.specs.KeptRosters.{IsKept, IsRoom, IsSized, no_holder}
+use Rattle.ft_desk.specs.RosterInvariant.{RosterInvariant, IsRoom, IsSized, no_holder}
 use Rattle.ft_desk.proofs.RosterLaws.{SameKind, SameSlots, IsMove}
-use Rattle.ft_desk.proofs.KeptLaws.{moves, kept-after, sites-are}
+use Rattle.ft_desk.proofs.RosterInvariantLaws.{moves, kept-after, sites-are}
 use Rattle.ft_desk.proofs.ChangeLaws.{enrolls, retires, off, slots-same, slots-without, slots-with}
 
 same_enrolled : (since : ℕ) (slot : Option ℕ) (x y : User) → y ≡ enrolled since slot x → SameKind x y
@@ -39,7 +39,7 @@ pub record IsStep (r : Inside) (u : ℕ) (y : User) (came left : Marks) (now : L
   pub before : (f : ℕ) → SameSlots f r.users.items now
   pub after : (f : ℕ) → SameSlots f (set r.users.items u y) now
 
-module _ (r : Inside) (k : IsKept r) (u : ℕ) (y : User) (came left : Marks) (now : List User) (s : IsStep r u y came left now) (totals : List ℕ)
+module _ (r : Inside) (k : RosterInvariant r) (u : ℕ) (y : User) (came left : Marks) (now : List User) (s : IsStep r u y came left now) (totals : List ℕ)
     (et : totals ≡ r.totals.items) where
   pub step-moves : (f : ℕ) → f < length r.counts
       → MayMove (length now) u (holds came f) (holds left f) (user_of now u).regs (is_some (user_of now u).ipmodify) (row_of r.counts f) (get_or totals f 0)
@@ -61,7 +61,7 @@ module _ (r : Inside) (k : IsKept r) (u : ℕ) (y : User) (came left : Marks) (n
       → ((f : ℕ) → f < length r.counts → get_or new f 0 ≡ moved (holds came f) (holds left f) (suc u) (get_or totals f 0))
       → r'.holders.items ≡ set r.holders.items u h' → h ≡ get_or r.holders.items u h → h'.user ≡ h.user
       → h'.on ≡ cond (is_some (user_of now u).ipmodify) (union (difference h.on left) came) h.on
-      → IsRoom (length r.counts) r'.room → IsKept r'
+      → IsRoom (length r.counts) r'.room → RosterInvariant r'
   step-kept r' h h' new eu size rows ew long news eh at_h user on room =
       let hold : h ≡ get_or r.holders.items u no_holder = get_or_read r.holders.items u h (let e = k.holders in let w = s.within in omega (arith, e, w)) at_h no_holder in
       let full : length new ≡ r.totals.len = (let a = ap length et in let b = r.totals.ok.0 in omega (arith, a, b, long)) in
@@ -75,7 +75,7 @@ module _ (r : Inside) (k : IsKept r) (u : ℕ) (y : User) (came left : Marks) (n
 
 -- ## a user is registered: y is the user as it is then, and z the one whose sets are matched
 
-module _ (r : Inside) (k : IsKept r) (u since : ℕ) (slot : Option ℕ) (x y z : User) (came left : Marks) (within : u < length r.users.items)
+module _ (r : Inside) (k : RosterInvariant r) (u since : ℕ) (slot : Option ℕ) (x y z : User) (came left : Marks) (within : u < length r.users.items)
     (ex : x ≡ get_or r.users.items u x) (ey : y ≡ enrolled since slot x) (ez : z ≡ get_or (set r.users.items u y) u z)
     (not_yet : (user_of r.users.items u).registered ≡ false)
     (members : (f : ℕ) → f < size_of z.pair → holds came f ≡ matches_by z.pair.filter z.pair.notrace f)
@@ -113,7 +113,7 @@ module _ (r : Inside) (k : IsKept r) (u since : ℕ) (slot : Option ℕ) (x y z 
 
 -- ## a user is unregistered: z is the user before, whose sets are matched, and x the same; y is the user after
 
-module _ (r : Inside) (k : IsKept r) (u : ℕ) (x y z : User) (came left : Marks) (within : u < length r.users.items)
+module _ (r : Inside) (k : RosterInvariant r) (u : ℕ) (x y z : User) (came left : Marks) (within : u < length r.users.items)
     (ex : x ≡ get_or r.users.items u x) (ey : y ≡ retired x) (ez : z ≡ get_or r.users.items u z)
     (there : (user_of r.users.items u).registered ≡ true)
     (members : (f : ℕ) → f < size_of z.pair → holds left f ≡ matches_by z.pair.filter z.pair.notrace f)

@@ -15,7 +15,7 @@ use Rattle.ft_desk.specs.Declarations.{Declared, job_of}
 use Rattle.word_map.specs.Instructions.{insn_at, insn_of}
 use Rattle.ft_desk.specs.Sites.{row_at}
 use Rattle.ft_desk.specs.Commands.{edit_command}
-use Rattle.ft_desk.specs.KeptRosters.{IsSized}
+use Rattle.ft_desk.specs.RosterInvariant.{IsSized}
 use Rattle.ft_desk.specs.Users.{desk_by, edited_pair, is_at, row_by, spec_by, state_of, sum_over, user_of}
 use Rattle.ft_desk.specs.Rosters.{claim_of, job_by}
 use Rattle.ft_desk.proofs.SumLaws.{user_at-is, sited-count}

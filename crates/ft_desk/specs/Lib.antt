@@ -2,10 +2,10 @@ pub mod Declarations
 pub mod Commands
 pub mod Sites
 pub mod Plans
-pub mod Seen
+pub mod DeskView
 pub mod Users
 pub mod Moves
 pub mod Rosters
-pub mod KeptRosters
-pub mod KeptDesks
+pub mod RosterInvariant
+pub mod DeskInvariant
 pub mod Lines

@@ -15,7 +15,7 @@ ghost use Rattle.ft_desk.specs.Commands.{command_of, IsInShape, edit_command, sw
 ghost use Rattle.ft_desk.specs.Plans.{no_plan, plain_plan, first_of, user_after, user_before};
 ghost use Rattle.word_map.specs.Instructions.{insn_at};
 ghost use Rattle.ft_desk.specs.Sites.{row_at};
-ghost use Rattle.ft_desk.specs.Seen.{answer, carried_out, opened, turned_down};
+ghost use Rattle.ft_desk.specs.DeskView.{answer, carried_out, opened, turned_down};
 
 use crate::command::Command;
 use crate::plan::Plan;
@@ -48,15 +48,15 @@ pub struct Desk {
 }
 
 impl Model for Desk {
-    ghost use Rattle.ft_desk.specs.Seen.{Seen};
+    ghost use Rattle.ft_desk.specs.DeskView.{DeskView};
 
-    ghost Value = { Seen };
+    ghost Value = { DeskView };
 
-    ghost use Rattle.ft_desk.specs.KeptDesks.{seen_of, IsKept};
+    ghost use Rattle.ft_desk.specs.DeskInvariant.{desk_view, DeskInvariant};
 
-    ghost view = { seen_of };
+    ghost view = { desk_view };
 
-    ghost invariant = { IsKept };
+    ghost invariant = { DeskInvariant };
 }
 
 impl Desk {

@@ -12,7 +12,7 @@ ghost use Rattle.ipmodify.specs.Conflicts.{conflict_of};
 ghost use Rattle.ipmodify.specs.OnDesk.{answer_of};
 ghost use Rattle.ft_desk.specs.Users.{declared_as, desk_by, edited_pair, edited_user, enrolled, retired, row_by, switched, user_of};
 ghost use Rattle.ft_desk.specs.Rosters.{claim_of, job_by};
-ghost use Rattle.ft_desk.specs.KeptRosters.{IsRoom, IsSized, no_holder};
+ghost use Rattle.ft_desk.specs.RosterInvariant.{IsRoom, IsSized, no_holder};
 
 use crate::sites::{insn_by, ran_by, resite};
 use crate::user::User;
@@ -57,11 +57,11 @@ impl Model for Roster {
 
     ghost Value = { Users };
 
-    ghost use Rattle.ft_desk.specs.KeptRosters.{users_of, IsKept};
+    ghost use Rattle.ft_desk.specs.RosterInvariant.{users_of, RosterInvariant};
 
     ghost view = { users_of };
 
-    ghost invariant = { IsKept };
+    ghost invariant = { RosterInvariant };
 }
 
 impl Roster {

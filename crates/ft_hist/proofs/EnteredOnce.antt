@@ -18,12 +18,12 @@ use Rattle.ft_hist.specs.Rules.{IsLegal, IsLegalPast, MayFollow}
 use Rattle.ft_hist.specs.Telling.{is_ret_of, open_calls}
 use Rattle.ft_hist.proofs.Laws.{same_call-refl, own-item}
 use Rattle.ft_hist.proofs.RunLaws.{same_call-eq, calls_on, Keeps, Moves}
-use Rattle.ft_hist.proofs.HeldLaws.{opens, top-open}
+use Rattle.ft_hist.proofs.FrameCounts.{opens, top-open}
 use Rattle.ft_hist.proofs.Splitting.{splits, split-reverse, legal-older}
 use Rattle.ft_hist.proofs.Numbers.{moved, some-run, enters-fresh, past-enter, past-through}
 use Rattle.ft_hist.proofs.Nesting.{top_of, entering}
 use Rattle.ft_hist.proofs.ByItems.{any-reverse}
-use Rattle.ft_hist.proofs.Told.{legal-to}
+use Rattle.ft_hist.proofs.ItemOrders.{legal-to}
 
 -- ## the Enter of a call names the latest open call of its task
 

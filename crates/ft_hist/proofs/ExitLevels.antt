@@ -19,11 +19,11 @@ use Rattle.ft_hist.specs.Rules.{IsLegal, IsLegalPast}
 use Rattle.ft_hist.proofs.Laws.{same_call-refl}
 use Rattle.ft_hist.proofs.RunLaws.{calls_on, sound}
 use Rattle.ft_hist.proofs.Steps.{Step, step_begin, step_return, step_enter, step_act, step_back, step_refuse, step_exit, step_ret, own-step, run-holds}
-use Rattle.ft_hist.proofs.HeldLaws.{opens}
+use Rattle.ft_hist.proofs.FrameCounts.{opens}
 use Rattle.ft_hist.proofs.Since.{touches, touches-none, untouched-item}
 use Rattle.ft_hist.proofs.Carries.{touches-other}
 use Rattle.ft_hist.proofs.Numbers.{some-run, none-before}
-use Rattle.ft_hist.proofs.Told.{at_x, legal_past, ctx_is}
+use Rattle.ft_hist.proofs.ItemOrders.{at_x, legal_past, ctx_is}
 use Rattle.ft_hist.proofs.OpenBacks.{Standing, stands, standing, opens_at, each-standing, lower-apart, opens-below}
 
 -- at an Exit the top call is in no callback

@@ -18,7 +18,7 @@ use Rattle.ft_hist.specs.Finished.{is_in_callback, is_scripted, finished, calls_
 use Rattle.ft_hist.proofs.Laws.{same_call-refl, nothing-ahead}
 use Rattle.ft_hist.proofs.RunLaws.{calls_on, sound}
 use Rattle.ft_hist.proofs.Steps.{Step, step_enter, step_act, step_body, step_leave, step_ret, IsQuiet, acts_ahead, run-holds}
-use Rattle.ft_hist.proofs.HeldLaws.{not_same}
+use Rattle.ft_hist.proofs.FrameCounts.{not_same}
 use Rattle.ft_hist.proofs.Numbers.{some-run}
 use Rattle.ft_hist.proofs.OpenBacks.{opened, standing, stands, open_on, user_in}
 

@@ -20,8 +20,8 @@ use Rattle.ft_hist.specs.Telling.{is_exit_for}
 use Rattle.ft_hist.proofs.RunLaws.{same_call-eq}
 use Rattle.ft_hist.proofs.Splitting.{splits, split-reverse}
 use Rattle.ft_hist.proofs.ByItems.{HasBack, told, any-reverse}
-use Rattle.ft_hist.proofs.ToldExits.{each-of, user_no}
-use Rattle.ft_hist.proofs.Told.{later_at}
+use Rattle.ft_hist.proofs.ExitItems.{each-of, user_no}
+use Rattle.ft_hist.proofs.ItemOrders.{later_at}
 
 -- a list isn't as long as one that ends in it
 longer : (zs ts us : List Item) (y : Item) → ts ≡ y ∷ (zs ++ us) → length ts ≡ length us → ⊥

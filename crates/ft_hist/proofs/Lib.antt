@@ -4,7 +4,7 @@ pub mod DispatchLaws
 pub mod Steps
 pub mod RunLaws
 pub mod Since
-pub mod HeldLaws
+pub mod FrameCounts
 pub mod Lists
 pub mod Visiting
 pub mod CallSo
@@ -14,11 +14,11 @@ pub mod Splitting
 pub mod Numbers
 pub mod ByItems
 pub mod Nesting
-pub mod Told
-pub mod ToldMore
+pub mod ItemOrders
+pub mod ItemLaws
 pub mod Unregistered
 pub mod Orders
-pub mod ToldExits
+pub mod ExitItems
 pub mod FullStack
 pub mod EnteredOnce
 pub mod Carries
@@ -36,5 +36,5 @@ pub mod Written
 pub mod SmallJobs
 pub mod NotLegal
 pub mod NotLegalClauses
-pub mod ToldSamples
+pub mod TellingSamples
 pub mod DispatchSamples

@@ -14,7 +14,7 @@ use Rattle.ft_hist.specs.Plain.{plain, PlainTask, Frame, top_call}
 use Rattle.ft_hist.specs.Rules.{IsLegalPast}
 use Rattle.ft_hist.specs.Telling.{is_ret_of}
 use Rattle.ft_hist.proofs.Laws.{same_call-refl}
-use Rattle.ft_hist.proofs.HeldLaws.{Falls, opens}
+use Rattle.ft_hist.proofs.FrameCounts.{Falls, opens}
 use Rattle.ft_hist.proofs.Numbers.{moved, some-run, holds-through, none-any}
 use Rattle.ft_hist.proofs.RunLaws.{some_inj, same_call-eq, calls_on, Moves}
 use Rattle.ft_hist.proofs.Splitting.{legal-older}

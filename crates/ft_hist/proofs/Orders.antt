@@ -24,7 +24,7 @@ use Rattle.ft_hist.proofs.Splitting.{splits, split-reverse}
 use Rattle.ft_hist.proofs.Laws.{same_call-refl}
 use Rattle.ft_hist.proofs.RunLaws.{same_call-eq}
 use Rattle.ft_hist.proofs.ByItems.{any-reverse, visited-since, visits-older, of-visit, HasBack, told}
-use Rattle.ft_hist.proofs.Told.{later_at, legal-to, at_x, func_is}
+use Rattle.ft_hist.proofs.ItemOrders.{later_at, legal-to, at_x, func_is}
 
 -- ## the order of users
 

@@ -24,7 +24,7 @@ use Rattle.ft_hist.proofs.Lists.{none_visited}
 use Rattle.ft_hist.proofs.RunLaws.{calls_on, sound}
 use Rattle.ft_hist.proofs.Steps.{Step, step_begin, step_return, step_enter, step_act, step_back, step_back_end, step_refuse, step_miss, step_body, step_ret, run-holds}
 use Rattle.ft_hist.proofs.Since.{Untouched, untouched-item, touches, holds-untouched, holds_by, holds-by, any-filter}
-use Rattle.ft_hist.proofs.HeldLaws.{Opens, opens, held-on, not_same, not_same', top-open}
+use Rattle.ft_hist.proofs.FrameCounts.{Opens, opens, held-on, not_same, not_same', top-open}
 use Rattle.ft_hist.proofs.Carries.{carries_item}
 use Rattle.ft_hist.proofs.Numbers.{some-run}
 

@@ -18,7 +18,7 @@ use Rattle.ft_hist.specs.Past.{done, begun, entry_of}
 use Rattle.ft_hist.specs.Rules.{IsLegal, MayFollow}
 use Rattle.ft_hist.proofs.Splitting.{splits, legal-front, split-reverse}
 use Rattle.ft_hist.proofs.WindowLaws.{legal-counts}
-use Rattle.ft_hist.proofs.Told.{done-newer}
+use Rattle.ft_hist.proofs.ItemOrders.{done-newer}
 
 module _ (job : Job) where
   -- a command that isn't its registration leaves an unregistered user so

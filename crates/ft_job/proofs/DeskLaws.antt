@@ -12,7 +12,7 @@ use Rattle.ft_desk.specs.declared.command.Ctl.{Ctl}
 use Rattle.ft_desk.specs.declared.command.Ctl.TheVariants.{Run, Until}
 use Rattle.ft_desk.specs.Commands.{command_of, ctl_of}
 use Rattle.ft_desk.specs.Declarations.{Declared, IsOf, bare, job_of}
-use Rattle.ft_desk.specs.Seen.{Seen, after_command, opened}
+use Rattle.ft_desk.specs.DeskView.{DeskView, after_command, opened}
 use Rattle.ft_desk.specs.Sites.{row_at}
 use Rattle.ft_desk.proofs.JobLaws.{opening-is, bare-at}
 use Rattle.word_machine_laws.proofs.Limited.{few-commands}
@@ -53,17 +53,17 @@ desk-past job n (suc m) past =
 
 -- ## a desk that was just made
 
-module _ (s : Seen) (new : s ≡ opened s.declared) where
+module _ (s : DeskView) (new : s ≡ opened s.declared) where
   pub new-commands : s.commands ≡ 0
-  new-commands = ap (λ (t : Seen). t.commands) new
+  new-commands = ap (λ (t : DeskView). t.commands) new
 
   pub new-state : (job : Job) → IsOf job s.declared → s.state ≡ desk job s.commands
   new-state job is =
-      ap (λ (t : Seen). t.state) new ∙ opening-is job s.declared is ∙ sym (desk-zero job) ∙ ap (desk job) (sym new-commands)
+      ap (λ (t : DeskView). t.state) new ∙ opening-is job s.declared is ∙ sym (desk-zero job) ∙ ap (desk job) (sym new-commands)
 
 -- ## one line more
 
-module _ (old : Declared) (xs : List Ctl) (i : ℕ) (s : Seen) (kept : s.declared ≡ old)
+module _ (old : Declared) (xs : List Ctl) (i : ℕ) (s : DeskView) (kept : s.declared ≡ old)
     (counted : s.commands ≡ length (commands_in (take i (lines_of old.tasks xs)))) where
   seen-line : (y : Ctl) → slice_get xs i ≡ Some y → slice_get (lines_of old.tasks xs) i ≡ Some (ctl_of old.tasks y)
   seen-line y at = slice_get-map (ctl_of old.tasks) xs i ∙ ap (option_map (ctl_of old.tasks)) at
@@ -81,15 +81,15 @@ module _ (old : Declared) (xs : List Ctl) (i : ℕ) (s : Seen) (kept : s.declare
   counted-wait t n at = counted ∙ sym (count-until (lines_of old.tasks xs) i t.0 n (seen-line (Until t n) at)) ∙ next-count
 
   -- a command, which is planned
-  module _ (x : Command) (at : slice_get xs i ≡ Some (Run x)) (next : Seen) (then : next ≡ after_command s (command_of s.declared.tasks x)) where
+  module _ (x : Command) (at : slice_get xs i ≡ Some (Run x)) (next : DeskView) (then : next ≡ after_command s (command_of s.declared.tasks x)) where
     command-is : slice_get (lines_of old.tasks xs) i ≡ Some (PlainRun (command_of s.declared.tasks x))
     command-is = seen-line (Run x) at ∙ ap (λ (d : Declared). Some (PlainRun (command_of d.tasks x))) (sym kept)
 
     pub declared-next : next.declared ≡ old
-    declared-next = ap (λ (t : Seen). t.declared) then ∙ declared-after s (command_of s.declared.tasks x) ∙ kept
+    declared-next = ap (λ (t : DeskView). t.declared) then ∙ declared-after s (command_of s.declared.tasks x) ∙ kept
 
     pub commands-next : next.commands ≡ suc s.commands
-    commands-next = ap (λ (t : Seen). t.commands) then ∙ commands-after s (command_of s.declared.tasks x)
+    commands-next = ap (λ (t : DeskView). t.commands) then ∙ commands-after s (command_of s.declared.tasks x)
 
     pub counted-next : next.commands ≡ length (commands_in (take (i + 1) (lines_of old.tasks xs)))
     counted-next =
@@ -103,7 +103,7 @@ module _ (old : Declared) (xs : List Ctl) (i : ℕ) (s : Seen) (kept : s.declare
 
     pub state-next : (job : Job) → IsOf job old → lines_of old.tasks xs ≡ job.ctls → s.state ≡ desk job s.commands → next.state ≡ desk job next.commands
     state-next job is lines same =
-        ap (λ (t : Seen). t.state) then
+        ap (λ (t : DeskView). t.state) then
         ∙ state-same job s s.commands (command_of s.declared.tasks x) (subst (IsOf job) (sym kept) is) same (command-next job lines) refl
         ∙ ap (desk job) (sym commands-next)
 

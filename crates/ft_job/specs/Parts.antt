@@ -10,7 +10,7 @@ use Rattle.ft_desk.specs.declared.command.Ctl.{Ctl}
 use Rattle.ft_desk.specs.Declarations.{Declared, bare}
 use Rattle.ft_desk.specs.Lines.{IsLineIn, lines_of}
 use Rattle.word_machine.specs.Limits.{IsLimited}
-use Rattle.filter_commands.specs.Kept.{plain_trigger}
+use Rattle.filter_commands.specs.Meanings.{plain_trigger}
 use Rattle.ft_job.specs.declared.parts.JobParts.{JobParts}
 use Rattle.ft_job.specs.Plans.{row_of, AreLinesPlanned, AreRingsPlanned}
 

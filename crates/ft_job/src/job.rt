@@ -7,14 +7,14 @@ ghost use Rattle.ft_base.specs.Desk.{desk};
 ghost use Rattle.ft_base.specs.Job.{Job as PlainJob, funcs};
 ghost use Rattle.user_specs.specs.Plain.{spec_of, cpu_of};
 ghost use Rattle.ft_desk.specs.Declarations.{IsOf, job_of as job_of_desk};
-ghost use Rattle.ft_desk.specs.Seen.{opened};
+ghost use Rattle.ft_desk.specs.DeskView.{opened};
 ghost use Rattle.ft_desk.specs.Sites.{row_at};
 ghost use Rattle.ft_desk.specs.Lines.{IsLineIn, lines_of};
 ghost use Rattle.word_machine_laws.specs.Led.{in_order};
 ghost use Rattle.word_machine_laws.specs.Orders.{AreAllLed};
 ghost use Rattle.word_map.specs.Shapes.{IsShape, shape_of};
 ghost use Rattle.word_machine.specs.Limits.{IsLimited};
-ghost use Rattle.filter_commands.specs.Kept.{plain_trigger};
+ghost use Rattle.filter_commands.specs.Meanings.{plain_trigger};
 ghost use Rattle.ft_job.specs.Parts.{parts_of, quanta_of, cpus_from, IsWithin, job_of};
 ghost use Rattle.ft_job.specs.Plans.{row_of, AreLinesPlanned, AreRingsPlanned};
 

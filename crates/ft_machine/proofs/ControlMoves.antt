@@ -24,7 +24,7 @@ use Rattle.ft_machine.specs.Worlds.{IsFor, Parts, marked_on, world_of}
 use Rattle.ft_machine.proofs.Chosen.{Chosen, chosen, none-next}
 use Rattle.ft_machine.proofs.Made.{IsOpThere, gives-is, made-is, made-length, of-job, on-is, room-is}
 use Rattle.ft_machine.proofs.Moved.{HasMoved}
-use Rattle.ft_machine.proofs.Recording.{IsTold, first-told, first_in, told-past}
+use Rattle.ft_machine.proofs.Recording.{IsMarkOf, first-told, first_in, told-past}
 
 -- the words, control and CPUs after a step of control
 abbrev pub controlled : Parts → List ℕ → Seated → Parts
@@ -54,7 +54,7 @@ module _ (job : Job) (past : List Item) (limited : IsLimited job) (w : Parts) (k
 
     module _ (d : Seated) (is_for : IsControlFor job d) (none : d.items ≡ [])
         (is : control_of d ≡ control_got job (control_of w.control) (gives (placed (shape_of job) op) w.words))
-        (o : Option Item) (is-told : IsTold op o) where
+        (o : Option Item) (is-told : IsMarkOf op o) where
       abbrev told : List Item
       told = marked_on o past
 
@@ -102,7 +102,7 @@ module _ (job : Job) (past : List Item) (limited : IsLimited job) (w : Parts) (k
   control-room = subst (λ o. HasRoomAt w.words o) x.placed' (room job past limited w k r x.op x.is)
 
   -- what it hands over
-  pub control-told : (v : ℕ) (o : Option Item) → o ≡ first_in (marks_in (control_next job (control_of w.control)) v) → IsTold x.op o
+  pub control-told : (v : ℕ) (o : Option Item) → o ≡ first_in (marks_in (control_next job (control_of w.control)) v) → IsMarkOf x.op o
   control-told v o e = first-told x.op v o (e ∙ ap (λ next. first_in (marks_in next v)) x.is)
 
   stepped : control_row job (world_of job past w) x.op ≡ step job actor.Control (world_of job past w)
@@ -110,7 +110,7 @@ module _ (job : Job) (past : List Item) (limited : IsLimited job) (w : Parts) (k
   stepped = sym (ap (λ o. control_moved job (world_of job past w) o) x.is)
 
   pub control-moved : (words : List ℕ) → words ≡ made code w.words → (v : ℕ) → v ≡ gives code w.words → (d : Seated) → IsControlFor job d → d.items ≡ []
-      → control_of d ≡ control_got job (control_of w.control) v → (o : Option Item) → IsTold x.op o
+      → control_of d ≡ control_got job (control_of w.control) v → (o : Option Item) → IsMarkOf x.op o
       → HasMoved job (marked_on o past) (controlled w words d) (step job actor.Control (world_of job past w))
   control-moved words words-are v value d is_for none is o is-told =
       let is' : control_of d ≡ control_got job (control_of w.control) (gives (placed (shape_of job) x.op) w.words) =

@@ -38,7 +38,7 @@ use Rattle.ft_machine.proofs.Chosen.{Chosen, chosen, none-next}
 use Rattle.ft_machine.proofs.Made.{IsOpThere, gives-is, made-is, made-length, of-job, on-is, room-is}
 use Rattle.ft_machine.proofs.Moved.{HasMoved}
 use Rattle.ft_machine.proofs.Plans.{room-most}
-use Rattle.ft_machine.proofs.Recording.{IsLeft, IsTold, told-past}
+use Rattle.ft_machine.proofs.Recording.{IsLeft, IsMarkOf, told-past}
 
 -- ## the list of CPUs
 
@@ -130,7 +130,7 @@ module _ (job : Job) (past : List Item) (limited : IsLimited job) (w : Parts) (k
 
     module _ (y : CpuParts) (is_for : IsCpuFor job y) (none : y.marked.items ≡ []) (left : IsLeft op x.marked.left y.marked.left) (stays : y.marked.room ≡ x.marked.room)
         (is : cpu_of job y ≡ cpu_got job (cpu_of job x) (gives (placed (shape_of job) op) w.words))
-        (o : Option Item) (is-told : IsTold op o) where
+        (o : Option Item) (is-told : IsMarkOf op o) where
       abbrev told : List Item
       told = marked_on o past
 
@@ -242,7 +242,7 @@ module _ (job : Job) (past : List Item) (limited : IsLimited job) (w : Parts) (k
   cpu-had-left some = let lt = (cpu-fits (subst (λ o. IsSome (item_in o)) (sym u.is) some)).left in omega (arith, lt)
 
   pub cpu-moved : (words : List ℕ) → words ≡ made code w.words → (v : ℕ) → v ≡ gives code w.words → (y : CpuParts) → IsCpuFor job y → y.marked.items ≡ []
-      → IsLeft u.op x.marked.left y.marked.left → y.marked.room ≡ x.marked.room → cpu_of job y ≡ cpu_got job (cpu_of job x) v → (o : Option Item) → IsTold u.op o
+      → IsLeft u.op x.marked.left y.marked.left → y.marked.room ≡ x.marked.room → cpu_of job y ≡ cpu_got job (cpu_of job x) v → (o : Option Item) → IsMarkOf u.op o
       → (n : CpuNo) → n.0 ≡ i
       → HasMoved job (marked_on o past) (ran w words i y) (step job (actor.Cpu n) (world_of job past w))
   cpu-moved words words-are v value y is_for none left stays is o is-told n e =

@@ -11,7 +11,7 @@ use Rattle.word_map.specs.Shapes.{shape_of}
 use Rattle.ft_desk.specs.declared.command.Ctl.{Ctl}
 use Rattle.ft_desk.specs.Declarations.{Declared, IsOf, bare}
 use Rattle.ft_desk.specs.Lines.{lines_of}
-use Rattle.ft_desk.specs.Seen.{Seen, opened}
+use Rattle.ft_desk.specs.DeskView.{DeskView, opened}
 use Rattle.word_machine.specs.Limits.{IsLimited}
 use Rattle.control_core.specs.Plans.{IsDeclaredIn}
 use Rattle.ft_machine.specs.declared.cpus.TaskLimits.{TaskLimits}
@@ -28,7 +28,7 @@ declared-in j d is = record {
   tramps = is.tramps;
 }
 
-module _ (j : Job) (d : Seen) (ctls : List Ctl) (cpus : List CpuPlan) (specs : List Spec) (limits : TaskLimits) where
+module _ (j : Job) (d : DeskView) (ctls : List Ctl) (cpus : List CpuPlan) (specs : List Spec) (limits : TaskLimits) where
   pub declares : IsLimited j → d ≡ opened d.declared → IsOf j d.declared → lines_of d.declared.tasks ctls ≡ j.ctls
       → quanta_of (map cpu_of cpus) ≡ j.quanta → map cpu_of cpus ≡ cpus_from 0 j.quanta j.tasks → Each (λ q. q ≤ QUANTUM) j.quanta
       → map spec_of specs ≡ j.users → limits.frames ≡ j.frames → limits.version ≡ j.version

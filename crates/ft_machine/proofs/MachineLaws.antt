@@ -16,7 +16,7 @@ use Rattle.word_machine_laws.proofs.Room.{legal-turned}
 use Rattle.word_machine_laws.proofs.WordsFit.{start-runs, step-runs}
 use Rattle.ft_machine.specs.Worlds.{IsFor, Parts, marked_on, world_of}
 use Rattle.ft_machine.specs.declared.machine.Machine.{Machine}
-use Rattle.ft_machine.specs.Kept.{HasPast, IsAt, IsMachineOf, most_items, past_in}
+use Rattle.ft_machine.specs.MachineStates.{HasPast, IsAt, IsMachineOf, most_items, past_in}
 use Rattle.ft_machine.specs.Machines.{state_of}
 
 -- ## room

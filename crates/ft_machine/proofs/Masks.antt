@@ -6,7 +6,7 @@ use Rattle.ft_base.specs.Job.{Job}
 use Rattle.ft_base.specs.Marks.{empty}
 use Rattle.word_map.specs.Contents.{mask_of}
 use Rattle.pid_filter.specs.Lists.{PidLists, allows}
-use Rattle.ft_desk.proofs.SeenLaws.{mask-is}
+use Rattle.ft_desk.proofs.DeskViewLaws.{mask-is}
 
 pub all-mask : (n m : ℕ) (lists : PidLists) → lists ≡ record { pids = empty n; nopids = empty n } → length lists.pids ≡ n
     → ((t : ℕ) → t < length lists.pids → (bit_at m t == 1) ≡ allows lists t) → ((t : ℕ) → length lists.pids ≤ t → bit_at m t ≡ 0)

@@ -15,7 +15,7 @@ use Rattle.word_map.proofs.PlaceLaws.{opening_is}
 use Rattle.ft_desk.specs.declared.command.Ctl.{Ctl}
 use Rattle.ft_desk.specs.Commands.{ctl_of}
 use Rattle.ft_desk.specs.Declarations.{IsOf}
-use Rattle.ft_desk.specs.Seen.{Seen}
+use Rattle.ft_desk.specs.DeskView.{DeskView}
 use Rattle.word_machine.specs.Control.{control_start}
 use Rattle.word_machine.specs.Cpu.{Cpu, cpu_start}
 use Rattle.word_machine.specs.Laws.{Runs, items_on, room_on, tasks_on}
@@ -35,7 +35,7 @@ use Rattle.ft_machine.specs.Starts.{AreFirst, AreListsOf, ArePlansOf, own_room}
 
 -- ## what is declared
 
-module _ (job : Job) (d : Seen) (ctls : List Ctl) (plans : List CpuPlan) (specs : List Spec) (limits : TaskLimits) (shape : Shape)
+module _ (job : Job) (d : DeskView) (ctls : List Ctl) (plans : List CpuPlan) (specs : List Spec) (limits : TaskLimits) (shape : Shape)
     (h : Declares job d ctls plans specs limits shape) where
   pub declared-plans : ArePlansOf job plans specs limits shape
   declared-plans = record {
@@ -72,7 +72,7 @@ has-room ForAll job c some = some
 -- ## the machine
 
 -- what each part is before its first step
-module _ (w : Parts) (pids : ℕ) (d : Seen) (ctls : List Ctl) (plans : List CpuPlan) (specs : List Spec) (limits : TaskLimits) (rooms : CpuRoom)
+module _ (w : Parts) (pids : ℕ) (d : DeskView) (ctls : List Ctl) (plans : List CpuPlan) (specs : List Spec) (limits : TaskLimits) (rooms : CpuRoom)
     (traced : (job : Job) → length job.tasks ≡ w.shape.tasks → pids ≡ mask_of (desk job 0) (length job.tasks))
     (words : IsOpening w.shape pids w.words)
     (seated-shape : w.control.shape ≡ w.shape) (seated-desk : w.control.desk ≡ d) (seated-lines : w.control.lines ≡ lines_of w.shape.tasks ctls)
@@ -89,7 +89,7 @@ module _ (w : Parts) (pids : ℕ) (d : Seen) (ctls : List Ctl) (plans : List Cpu
     words-open = subst (λ s. IsOpening s (mask_of (desk job 0) (length job.tasks)) w.words) h.shape' (subst (λ m. IsOpening w.shape m w.words) pids-is words)
 
     control-is : control.IsFor job w.control × (control_of w.control ≡ control_start job)
-    control-is = starts job w.control (seated-shape ∙ h.shape') (seated-lines ∙ h.lines) (subst (λ (s : Seen). IsOf job s.declared) (sym seated-desk) h.of') seated
+    control-is = starts job w.control (seated-shape ∙ h.shape') (seated-lines ∙ h.lines) (subst (λ (s : DeskView). IsOf job s.declared) (sym seated-desk) h.of') seated
 
     cpu-is : (c : ℕ) (o : Option CpuParts) → slice_get w.cpus c ≡ o → cpu_or job (cpu_start job c) o ≡ cpu_start job c
     cpu-is c None e = refl

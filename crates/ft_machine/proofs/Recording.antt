@@ -12,9 +12,9 @@ use Rattle.ft_machine.specs.Worlds.{marked_on}
 -- ## what is marked
 
 -- what is told of an operation: the item that it has marked
-abbrev pub IsTold : WordOp → Option Item → Type 0
-IsTold (Mark item) o = o ≡ Some item
-IsTold _ o = o ≡ None
+abbrev pub IsMarkOf : WordOp → Option Item → Type 0
+IsMarkOf (Mark item) o = o ≡ Some item
+IsMarkOf _ o = o ≡ None
 
 -- how many items are left to mark after an operation
 abbrev pub IsLeft : WordOp → ℕ → ℕ → Type 0
@@ -28,7 +28,7 @@ abbrev pub first_in : List Stamped → Option Item
 first_in items = option_map (λ (s : Stamped). s.item) (slice_get items 0)
 
 -- what an operation marks is told
-pub first-told : (op : WordOp) (v : ℕ) (o : Option Item) → o ≡ first_in (marks_in (Some op) v) → IsTold op o
+pub first-told : (op : WordOp) (v : ℕ) (o : Option Item) → o ≡ first_in (marks_in (Some op) v) → IsMarkOf op o
 first-told (Load w) v o e = e
 first-told (Store w x) v o e = e
 first-told (Mark item) v o e = e
@@ -36,7 +36,7 @@ first-told (Mark item) v o e = e
 -- ## what a CPU hands on
 
 -- what an operation marks is told
-pub is-told : (op : WordOp) (o : Option Item) → o ≡ item_in (Some op) → IsTold op o
+pub is-told : (op : WordOp) (o : Option Item) → o ≡ item_in (Some op) → IsMarkOf op o
 is-told (Load w) o e = e
 is-told (Store w x) o e = e
 is-told (Mark item) o e = e
@@ -63,7 +63,7 @@ handed-left (Mark item) o e m n is some =
 -- ## the items so far
 
 -- they go on with the world's
-pub told-past : (op : WordOp) (o : Option Item) → IsTold op o → (past : List Item) → marked_on o past ≡ past_after op past
+pub told-past : (op : WordOp) (o : Option Item) → IsMarkOf op o → (past : List Item) → marked_on o past ≡ past_after op past
 told-past (Load w) o same past = ap (λ (x : Option Item). marked_on x past) same
 told-past (Store w x) o same past = ap (λ (x : Option Item). marked_on x past) same
 told-past (Mark item) o same past = ap (λ (x : Option Item). marked_on x past) same

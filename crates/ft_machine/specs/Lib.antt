@@ -1,4 +1,4 @@
-pub mod Kept
+pub mod MachineStates
 pub mod Machines
 pub mod Replays
 pub mod Fed
@@ -7,4 +7,4 @@ pub mod Sites
 pub mod Worlds
 pub mod Nexts
 pub mod Starts
-pub mod Fields
+pub mod WorldInvariant

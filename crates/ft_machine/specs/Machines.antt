@@ -4,7 +4,7 @@ use Rattle.word_map.specs.declared.shape.Shape.{Shape}
 use Rattle.word_machine.specs.Machine.{World}
 use Rattle.ft_machine.specs.Worlds.{world_of}
 use Rattle.ft_machine.specs.declared.machine.Machine.{Machine}
-use Rattle.ft_machine.specs.Kept.{IsMachineOf, past_in}
+use Rattle.ft_machine.specs.MachineStates.{IsMachineOf, past_in}
 
 -- the state of the word machine that it stands for
 abbrev pub state_of : Job → Machine → World

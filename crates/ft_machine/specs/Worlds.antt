@@ -13,7 +13,7 @@ use Rattle.word_map.specs.Places.{len, words_in}
 use Rattle.word_map.specs.Contents.{mask_of}
 use Rattle.ft_desk.specs.declared.command.Ctl.{Ctl}
 use Rattle.ft_desk.specs.Declarations.{IsOf}
-use Rattle.ft_desk.specs.Seen.{Seen, opened}
+use Rattle.ft_desk.specs.DeskView.{DeskView, opened}
 use Rattle.word_machine.specs.Cpu.{Cpu, cpu_start}
 use Rattle.word_machine.specs.Laws.{Runs, items_on, room_on}
 use Rattle.word_machine.specs.Limits.{IsLimited}
@@ -99,7 +99,7 @@ pub record IsRunning (w : Parts) : Type 0 where
 -- ## at the start
 
 -- what is declared for the machine of a job
-pub record Declares (job : Job) (d : Seen) (ctls : List Ctl) (plans : List CpuPlan) (specs : List Spec) (limits : TaskLimits) (shape : Shape) : Type 0 where
+pub record Declares (job : Job) (d : DeskView) (ctls : List Ctl) (plans : List CpuPlan) (specs : List Spec) (limits : TaskLimits) (shape : Shape) : Type 0 where
   pub limited : IsLimited job
   pub desk' : d ≡ opened d.declared
   pub of' : IsOf job d.declared

@@ -1,6 +1,6 @@
 //! The machine of a job.
 
-ghost use Rattle.ft_machine.specs.Kept.{IsMachine};
+ghost use Rattle.ft_machine.specs.MachineStates.{IsMachine};
 
 use crate::cpus::CpuRoom;
 use crate::start::{new_history, new_world};

@@ -5,7 +5,7 @@ ghost use Rattle.ft_base.specs.declared.item.Item.{Item};
 ghost use Rattle.ft_hist.specs.Rules.{IsLegal, IsLegalPast, IsWhole};
 ghost use Rattle.ft_base.specs.Job.{Job as PlainJob};
 ghost use Rattle.word_machine.specs.Machine.{World as State, all_end, play, played, step};
-ghost use Rattle.ft_machine.specs.Kept.{IsAt};
+ghost use Rattle.ft_machine.specs.MachineStates.{IsAt};
 ghost use Rattle.ft_machine.specs.Replays.{IsBeginning};
 
 use crate::cpus::CpuRoom;

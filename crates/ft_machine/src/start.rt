@@ -8,7 +8,7 @@ ghost use Rattle.word_machine.specs.Limits.{IsLimited};
 ghost use Rattle.word_machine.specs.Machine.{start};
 ghost use Rattle.ft_machine.specs.Starts.{AreFirst};
 ghost use Rattle.ft_machine.specs.Worlds.{IsFor, world_of};
-ghost use Rattle.ft_machine.specs.Kept.{limits_for, most_items};
+ghost use Rattle.ft_machine.specs.MachineStates.{limits_for, most_items};
 
 use crate::cpus::{CpuRoom, TaskLimits};
 use crate::world::{World, most_items as most_of};

@@ -43,7 +43,7 @@ pub trait Taker {
 
 impl Taker for History {
     ghost use Rattle.std.specs.Prelude.{◌≡◌, ◌<◌};
-    ghost use Rattle.ft_machine.specs.Kept.{past_in};
+    ghost use Rattle.ft_machine.specs.MachineStates.{past_in};
 
     ghost took = { λ _ past _ history. past_in history ≡ past };
 

@@ -60,11 +60,11 @@ impl Model for World {
 
     ghost Value = { Parts };
 
-    ghost use Rattle.ft_machine.specs.Fields.{parts_of, IsKept};
+    ghost use Rattle.ft_machine.specs.WorldInvariant.{parts_of, WorldInvariant};
 
     ghost view = { parts_of };
 
-    ghost invariant = { IsKept };
+    ghost invariant = { WorldInvariant };
 }
 
 impl World {

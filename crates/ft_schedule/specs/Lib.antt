@@ -4,4 +4,4 @@ pub mod Causes
 pub mod Coming
 pub mod Counts
 pub mod Bulk
-pub mod Held
+pub mod HoldTurns

@@ -1,7 +1,7 @@
 //! A hostile schedule: one actor is held up while another goes on.
 
 ghost use Rattle.std.specs.Prelude.{◌≡◌, ◌++◌, ◌<◌, ◌≤◌, ◌+◌, vec_capacity, vec_len, IfOk};
-ghost use Rattle.ft_schedule.specs.Held.{held_turns, turns_for};
+ghost use Rattle.ft_schedule.specs.HoldTurns.{held_turns, turns_for};
 
 use crate::schedule::Schedule;
 use ft_base::{NoMemory, Turn, Who};

@@ -13,7 +13,7 @@ use Rattle.module_table.specs.declared.line.ModLine.TheVariants.{Plain, Load, Un
 use Rattle.module_table.specs.Lines.{Between, answer_to, commands_for}
 use Rattle.module_table.specs.Made.{line_of, Appends}
 use Rattle.ft_script.specs.Expansion.{Expansion, runs_of, rows_with, rows_for}
-use Rattle.ft_script.specs.Late.{rows_told, IsTold}
+use Rattle.ft_script.specs.Late.{rows_told, IsRowAnswer}
 
 -- commands that are added as lines
 pub lines-runs : (tasks : ℕ) (old : List Ctl) (cs : List Command) → lines_of tasks (old ++ map Run cs) ≡ lines_of tasks old ++ runs_of (map (command_of tasks) cs)
@@ -39,7 +39,7 @@ told-tasks tasks line None first last = refl
 told-tasks tasks line (Some answer) first last = rows-tasks tasks line answer first last
 
 -- the row that is added is the line's
-pub row-told : (known : Between) (tasks : ℕ) (line : ModLine) (answer : Option Answer) (first last : ℕ) → IsTold known (line_of tasks line) answer → first ≡ suc known.commands
+pub row-told : (known : Between) (tasks : ℕ) (line : ModLine) (answer : Option Answer) (first last : ℕ) → IsRowAnswer known (line_of tasks line) answer → first ≡ suc known.commands
     → last ≡ known.commands + length (commands_for known (line_of tasks line)) → rows_told (line_of 0 line) answer first last ≡ rows_for known (line_of tasks line)
 row-told known tasks line answer first last told e1 e2 =
     told-tasks tasks line answer first last ∙ told first last ∙ ap₂ (rows_with (line_of tasks line) (answer_to known (line_of tasks line))) e1 e2

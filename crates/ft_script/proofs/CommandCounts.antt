@@ -12,10 +12,10 @@ use Rattle.ft_script.specs.declared.expansion.Expansion.{Expansion as KeptExpans
 use Rattle.ft_script.specs.Above.{Above, LinedCtl, ScriptCtl, Run, Until, with_ctl}
 use Rattle.ft_script.specs.Expansion.{Expansion, opened, expanded_all, line_as_it_is, lines_as_they_are, expansion_of, command_count}
 use Rattle.ft_script.specs.Holds.{IsPlain}
-use Rattle.ft_script.specs.Kept.{above_of, lined_ctl, expansion_in, IsKept}
+use Rattle.ft_script.specs.ReaderInvariant.{above_of, lined_ctl, expansion_in, ReaderInvariant}
 use Rattle.ft_script.proofs.LookUps.{mapped_length}
 use Rattle.ft_script.proofs.Expanding.{expansion-plain, expansion-lanes, counted, opening-none, opening-each}
-use Rattle.ft_script.proofs.KeptReader.{some-not-none}
+use Rattle.ft_script.proofs.ReaderParts.{some-not-none}
 
 -- ## in a script with lanes
 
@@ -57,7 +57,7 @@ count-each above none empty away = count-opened above none empty ∙ opening-eac
 -- ## with one more line of control
 
 -- if the script has lanes, it is one command more
-pub ctl-few : (old new : Reader) → IsKept old → IsKept new → (ctl : ScriptCtl) → above_of new ≡ with_ctl (above_of old) ctl → (old.lane_count ≡ 0 → is_some new.expansion ≡ true)
+pub ctl-few : (old new : Reader) → ReaderInvariant old → ReaderInvariant new → (ctl : ScriptCtl) → above_of new ≡ with_ctl (above_of old) ctl → (old.lane_count ≡ 0 → is_some new.expansion ≡ true)
     → command_count (above_of old) ≤ COMMANDS → new.expansion ≡ None → command_count (above_of new) < 2 ^ 32
 ctl-few old new k n ctl is some few none =
     let lanes : (above_of old).lane_count ≢ 0 = λ e. some-not-none new.expansion (some e) none in
@@ -69,7 +69,7 @@ ctl-few old new k n ctl is some few none =
 
 -- ## as the reader counts them
 
-module _ (r : Reader) (k : IsKept r) where
+module _ (r : Reader) (k : ReaderInvariant r) where
   lines : length (above_of r).ctls ≡ length r.ctls.items
   lines = mapped_length (lined_ctl (length r.tasks.items)) r.ctls.items
 

@@ -41,7 +41,7 @@ use Rattle.ft_script.specs.declared.reader.Reader.{Reader}
 use Rattle.ft_script.specs.declared.reader.coverage.NamedModules.{NamedModules}
 use Rattle.ft_script.specs.Above.{Above, ScriptCtl, Run, Until, LinedCtl}
 use Rattle.ft_script.specs.Expansion.{Expansion, opened, rows_with, rows_for, expanded, expanded_all, expansion_of, act_in_job}
-use Rattle.ft_script.specs.Kept.{above_of, expansion_in, HasExpansion, AreOf}
+use Rattle.ft_script.specs.ReaderInvariant.{above_of, expansion_in, HasExpansion, AreOf}
 use Rattle.ft_script.specs.Script.{task_in_job, task_of, job_tasks_of, job_of, is_named_module, lies_in_named, called_by, needs_named, IsLineOfNeed, MayFindUnloaded, user_may, call_may}
 use Rattle.ft_script.specs.Holds.{AreInLanes, LanesHold, Holds}
 use Rattle.ft_script.proofs.Expanding.{expansion-plain, expansion-lanes}

@@ -43,10 +43,10 @@ use Rattle.ft_script.specs.Causes.{rank_of, is_misplaced, has_ctl_in_no_lane, is
 use Rattle.ft_script.specs.Script.{or_nothing, said}
 use Rattle.ft_script.specs.Within.{IsInOrder}
 use Rattle.ft_script.specs.Holds.{IsLine}
-use Rattle.ft_script.specs.Fits.{IsNextCall, IsNextAct, IsWhereItMay, FitsAs, IsRanked, Fits}
+use Rattle.ft_script.specs.LineConditions.{IsNextCall, IsNextAct, IsWhereItMay, FitsAs, IsRanked, Fits}
 use Rattle.ft_script.proofs.FormNames.{Named, form-named, version-is, name-short, owner-short}
 use Rattle.ft_script.proofs.NoCause.{no-cause, not-zero, err-ok, ok-same}
-use Rattle.ft_script.proofs.RingsKept.{trigger-over}
+use Rattle.ft_script.proofs.RingBounds.{trigger-over}
 
 -- ## the order of ranks
 

@@ -18,7 +18,7 @@ use Rattle.ft_script.specs.Script.{job_of}
 use Rattle.ft_script.specs.Holds.{IsLine, CanRun}
 use Rattle.ft_script.specs.Hidden.{known_after, is_loaded_or_none, is_there, matches_by_own, HidesModules}
 use Rattle.ft_script.proofs.Expanding.{declared-still}
-use Rattle.ft_script.proofs.Carried.{known-reached}
+use Rattle.ft_script.proofs.JobLines.{known-reached}
 use Rattle.ft_script.proofs.DeskOfJob.{first_lines, desk-known}
 use Rattle.ft_script.proofs.LoadedLaws.{loaded-known}
 

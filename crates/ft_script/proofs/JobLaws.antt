@@ -29,11 +29,11 @@ use Rattle.ft_script.specs.Above.{Above}
 use Rattle.ft_script.specs.Expansion.{Expansion, expansion_of}
 use Rattle.ft_script.specs.Script.{task_of, task_in_job, job_tasks_of, job_of}
 use Rattle.ft_script.specs.Holds.{acts_of, LanesHold, IsAtMost, Holds, CanRun}
-use Rattle.ft_script.specs.Kept.{AreParts}
+use Rattle.ft_script.specs.ReaderInvariant.{AreParts}
 use Rattle.ft_script.proofs.ActsInJob.{leads-in_job, raises-in_job, each-in_job, placed-in_job, all_acts-in_job, all_calls-in_job}
-use Rattle.ft_script.proofs.Carried.{IsLineOfJob, lines-carried, waits-carried, rows-carried, lanes-carried}
-use Rattle.ft_script.proofs.RingsKept.{entries-within}
-use Rattle.ft_script.proofs.TasksKept.{closed-tasks, raised-tasks}
+use Rattle.ft_script.proofs.JobLines.{IsLineOfJob, lines-carried, waits-carried, rows-carried, lanes-carried}
+use Rattle.ft_script.proofs.RingBounds.{entries-within}
+use Rattle.ft_script.proofs.TaskConditions.{closed-tasks, raised-tasks}
 
 -- ## tasks
 

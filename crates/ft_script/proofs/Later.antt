@@ -8,7 +8,7 @@ use Rattle.ft_desk.specs.declared.command.Command.{Command}
 use Rattle.ft_desk.specs.Commands.{command_of, IsInShape}
 use Rattle.module_table.specs.Lines.{Between, Line, Plain, after_line, after_lines}
 use Rattle.ft_script.specs.declared.late.LateModules.TheInside.{Inside}
-use Rattle.ft_script.specs.Late.{lines_with, known, HasRoom, IsKeptLate}
+use Rattle.ft_script.specs.Late.{lines_with, known, HasRoom, LateInvariant}
 
 -- one line more
 after-push : (b : Between) (lines : List Line) (line : Line) → after_lines b (lines ++ line ∷ []) ≡ after_line (after_lines b lines) line
@@ -27,7 +27,7 @@ commands-after b tasks (c ∷ cs) = let e = commands-after (after_line b (Plain 
 
 -- ## one command more is kept
 
-module _ (m : Inside) (kept : IsKeptLate m) (c : Command) (more : List Command) (is : more ≡ m.later.items ++ c ∷ []) where
+module _ (m : Inside) (kept : LateInvariant m) (c : Command) (more : List Command) (is : more ≡ m.later.items ++ c ∷ []) where
   pub known-more : after_lines m.modules (lines_with m.modules.declared.tasks more) ≡ after_line (known m) (Plain (command_of (known m).declared.tasks c))
   known-more =
       let d : Declared = m.modules.declared in

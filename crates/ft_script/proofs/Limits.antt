@@ -19,7 +19,7 @@ use Rattle.ft_script.specs.Expansion.{Expansion, opened, expanded_all, lines_as_
 use Rattle.ft_script.specs.Causes.{has_too_many_commands}
 use Rattle.ft_script.specs.Within.{FewActs, IsWithinLimits, IsInOrder}
 use Rattle.ft_script.specs.Holds.{LanesHold, Holds}
-use Rattle.ft_script.specs.Fits.{IsNextCall, FitsAs, IsRanked, Fits}
+use Rattle.ft_script.specs.LineConditions.{IsNextCall, FitsAs, IsRanked, Fits}
 use Rattle.ft_script.proofs.TaskLaws.{length-push_act}
 use Rattle.ft_script.proofs.Expanding.{expansion-plain, expansion-lanes, opening-few}
 

@@ -12,13 +12,13 @@ use Rattle.ft_script.specs.Causes.{is_unmatched, is_unbalanced, is_last, resolve
 use Rattle.ft_script.specs.Script.{with_line}
 use Rattle.ft_script.specs.Within.{IsWithinLimits}
 use Rattle.ft_script.specs.Holds.{LinesHold, LanesHold, Holds}
-use Rattle.ft_script.specs.Fits.{Fits}
+use Rattle.ft_script.specs.LineConditions.{Fits}
 use Rattle.ft_script.proofs.NoCause.{no-cause_in, carried}
 use Rattle.ft_script.proofs.Fitting.{said_last, accepted}
 use Rattle.ft_script.proofs.Limits.{IsLater, same-version, within-declared, order-declared, items-declared}
-use Rattle.ft_script.proofs.RingsKept.{rings-declared}
-use Rattle.ft_script.proofs.TasksKept.{Begins, tasks-declared}
-use Rattle.ft_script.proofs.LinesKept.{lines-kept, lanes-kept, lines-declared, lanes-declared, absent-declared, users-declared, user_lines-declared, frames-declared, quanta-declared}
+use Rattle.ft_script.proofs.RingBounds.{rings-declared}
+use Rattle.ft_script.proofs.TaskConditions.{Begins, tasks-declared}
+use Rattle.ft_script.proofs.LineBounds.{lines-kept, lanes-kept, lines-declared, lanes-declared, absent-declared, users-declared, user_lines-declared, frames-declared, quanta-declared}
 
 -- ## what holds after a line
 

@@ -22,7 +22,7 @@ abbrev pub HasRoom : Between → ℕ → Type 0
 HasRoom b n = (i : ℕ) → i < n → b.commands + i + length b.declared.specs + 1 < 2 ^ 32
 
 -- the commands that are kept name what is declared, and can be planned
-pub record IsKeptLate (m : Inside) : Type 0 where
+pub record LateInvariant (m : Inside) : Type 0 where
   pub numbers : Each (IsInShape m.modules.declared) m.later.items
   pub room : HasRoom m.modules (length m.later.items)
 
@@ -32,5 +32,5 @@ rows_told line None first last = []
 rows_told line (Some answer) first last = rows_with line answer first last
 
 -- the answer of a line is told if there is a row of it
-abbrev pub IsTold : Between → Line → Option Answer → Type 0
-IsTold b line answer = (first last : ℕ) → rows_told line answer first last ≡ rows_with line (answer_to b line) first last
+abbrev pub IsRowAnswer : Between → Line → Option Answer → Type 0
+IsRowAnswer b line answer = (first last : ℕ) → rows_told line answer first last ≡ rows_with line (answer_to b line) first last

@@ -7,6 +7,6 @@ pub mod Causes
 pub mod Script
 pub mod Hidden
 pub mod Within
-pub mod Kept
+pub mod ReaderInvariant
 pub mod Holds
-pub mod Fits
+pub mod LineConditions

@@ -61,7 +61,7 @@ impl Expansion {
     ghost use Rattle.module_table.specs.Reached.{IsLineIn};
     ghost use Rattle.ft_script.specs.Expansion.{rows_with, with_line, expanded};
     ghost use Rattle.ft_script.specs.Late.{rows_told};
-    ghost use Rattle.ft_script.specs.Kept.{expansion_in, script_ctl_of, IsCtlIn};
+    ghost use Rattle.ft_script.specs.ReaderInvariant.{expansion_in, script_ctl_of, IsCtlIn};
 
     /// What there is before the first line, with these modules absent.
     pub fn new(

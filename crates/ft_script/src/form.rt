@@ -5,7 +5,7 @@ ghost use Rattle.std.specs.Prelude.{◌≡◌, nat_le, nat_lt, option_map};
 ghost use Rattle.std.specs.List.{list_any};
 ghost use Rattle.std.specs.Option.{option_copied};
 ghost use Rattle.script_form.specs.Read.{form_read, user_read};
-ghost use Rattle.ft_script.specs.Kept.{names_module};
+ghost use Rattle.ft_script.specs.ReaderInvariant.{names_module};
 ghost use Rattle.ft_script.specs.Causes.{rank_of, is_act, is_long, is_long_or_none, has_long_name, act_name, is_big, is_bad_count, is_bad_pid, is_bad_depth, is_bad_ring, is_bad_quantum};
 
 use ft_base::limits::{FRAMES, NAME_BYTES, PID, QUANTUM, RING};

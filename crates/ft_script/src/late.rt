@@ -6,7 +6,7 @@ ghost use Rattle.ft_desk.specs.Commands.{command_of, IsInShape};
 ghost use Rattle.module_table.specs.Lines.{Plain, after_line, after_lines, answer_to, commands_for};
 ghost use Rattle.module_table.specs.Made.{Appends, is_masking, line_of};
 ghost use Rattle.module_table.specs.Reached.{IsLineIn};
-ghost use Rattle.ft_script.specs.Late.{lines_with, HasRoom, IsTold};
+ghost use Rattle.ft_script.specs.Late.{lines_with, HasRoom, IsRowAnswer};
 
 use ft_base::Answer;
 use ft_desk::Command;
@@ -29,13 +29,13 @@ pub struct LateModules {
 
 impl Model for LateModules {
     ghost use Rattle.module_table.specs.Lines.{Between};
-    ghost use Rattle.ft_script.specs.Late.{known, IsKeptLate};
+    ghost use Rattle.ft_script.specs.Late.{known, LateInvariant};
 
     ghost Value = { Between };
 
     ghost view = { known };
 
-    ghost invariant = { IsKeptLate };
+    ghost invariant = { LateInvariant };
 }
 
 impl LateModules {
@@ -66,7 +66,7 @@ impl LateModules {
     ) -> Result<Option<Answer>, AllocError>
         requires line { IsLineIn self.old.declared (length self.old.loaded) (line_of self.old.declared.tasks line.now) }
         requires room { self.old.commands + length self.old.declared.specs + 1 < 2 ^ 32 }
-        ensures answer { IfOk result (λ answer. IsTold self.old (line_of self.old.declared.tasks line.now) answer) }
+        ensures answer { IfOk result (λ answer. IsRowAnswer self.old (line_of self.old.declared.tasks line.now) answer) }
         ensures added { OnOk result (Appends self.old.declared out.old.items out.new.items (commands_for self.old (line_of self.old.declared.tasks line.now))) }
         ensures after { OnOk result (self.new ≡ after_line self.old (line_of self.old.declared.tasks line.now)) }
     {

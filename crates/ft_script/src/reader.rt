@@ -113,12 +113,12 @@ impl Reader {
     ghost use Rattle.ft_script.specs.Causes.{cause_of, cause_in, carried_out, resolved_line};
     ghost use Rattle.ft_script.specs.Script.{said, with_line, IsFaultAt, IsRefused};
     ghost use Rattle.ft_script.specs.Within.{IsSmall};
-    ghost use Rattle.ft_script.specs.Kept.{above_of, IsKept, HasNames};
+    ghost use Rattle.ft_script.specs.ReaderInvariant.{above_of, ReaderInvariant, HasNames};
 
     /// Nothing is declared above the first line, which says the version.
     pub fn new(alloc: Global) -> Reader
         ensures above { above_of result ≡ none_above }
-        ensures kept { IsKept result }
+        ensures kept { ReaderInvariant result }
     {
         Reader {
             version: 1,
@@ -151,9 +151,9 @@ impl Reader {
 
     /// Sees to it that the names of modules are at hand, if the line needs them.
     fn name_modules(&mut self, alloc: Global, form: &Option<LineForm>) -> Result<(), AllocError>
-        requires { IsKept self.old }
+        requires { ReaderInvariant self.old }
         ensures above { above_of self.new ≡ above_of self.old }
-        ensures kept { OnOk result (IsKept self.new) }
+        ensures kept { OnOk result (ReaderInvariant self.new) }
         ensures names { OnOk result (IfSome form.now (λ form. HasNames self.new (form_read form))) }
     {
         let needs = match form {
@@ -176,12 +176,12 @@ impl Reader {
         below: &[u8],
     ) -> Result<(), Cause>
         requires small { IsSmall (above_of self.old) }
-        requires kept { IsKept self.old }
+        requires kept { ReaderInvariant self.old }
         requires line { (bytes : List ℕ) × (option_map form_read form.now ≡ line_form bytes) }
         requires names { IfSome form.now (λ form. HasNames self.old (form_read form)) }
         ensures clear { OnOk result (cause_in (carried_out (above_of self.old) (resolved_line (above_of self.old) ended (option_map form_read form.now) (lines_of below.now))) ≡ None) }
         ensures declared { OnOk result (above_of self.new ≡ declared (above_of self.old) (said (above_of self.old) (option_map form_read form.now))) }
-        ensures kept { OnOk result (IsKept self.new) }
+        ensures kept { OnOk result (ReaderInvariant self.new) }
         ensures err { IfErr result (IsRefused (carried_out (above_of self.old) (resolved_line (above_of self.old) ended (option_map form_read form.now) (lines_of below.now)))) }
     {
         let resolved = self.resolve_line(alloc, form, ended, below)?;
@@ -198,10 +198,10 @@ impl Reader {
         below: &[u8],
     ) -> Result<(), ScriptFault>
         requires small { IsSmall (above_of self.old) }
-        requires kept { IsKept self.old }
+        requires kept { ReaderInvariant self.old }
         ensures clear { OnOk result (cause_of (above_of self.old) (record { bytes = line.now; ended = ended }) (lines_of below.now) ≡ None) }
         ensures declared { OnOk result (above_of self.new ≡ with_line (above_of self.old) (record { bytes = line.now; ended = ended })) }
-        ensures kept { OnOk result (IsKept self.new) }
+        ensures kept { OnOk result (ReaderInvariant self.new) }
         ensures err { IfErr result (IsFaultAt (above_of self.old) (cause_of (above_of self.old) (record { bytes = line.now; ended = ended }) (lines_of below.now))) }
     {
         let number = self.lines + 1;

@@ -11,7 +11,7 @@ ghost use Rattle.ft_script.specs.declared.faults.Cause.TheVariants.{Deadlock, Un
 ghost use Rattle.ft_script.specs.Script.{refusal_below, refusal_of, declared_in, control_of, no_memory, job_of, tasks_of, job_tasks_of, LeavesWaiting, LeavesUnloaded, MayFindUnloaded, IsJobOf, IsFaultOf};
 ghost use Rattle.ft_script.specs.Hidden.{HidesModules};
 ghost use Rattle.ft_script.specs.Holds.{CanRun};
-ghost use Rattle.ft_script.specs.Kept.{above_of, IsKept, IsOpen};
+ghost use Rattle.ft_script.specs.ReaderInvariant.{above_of, ReaderInvariant, IsOpen};
 
 use crate::faults::{Cause, ScriptFault};
 use crate::reader::Reader;
@@ -26,11 +26,11 @@ use user_specs::CpuPlan;
 fn read_lines(alloc: Global, text: &[u8], reader: &mut Reader) -> Result<(), ScriptFault>
     requires few { length text.now ≤ INPUT_BYTES }
     requires none { above_of reader.old ≡ none_above }
-    requires kept { IsKept reader.old }
+    requires kept { ReaderInvariant reader.old }
     ensures clear { OnOk result (refusal_below none_above (lines_of text.now) ≡ None) }
     ensures declared { OnOk result (above_of reader.new ≡ declared_in text.now) }
     ensures runs { OnOk result (CanRun (above_of reader.new)) }
-    ensures kept { OnOk result (IsKept reader.new) }
+    ensures kept { OnOk result (ReaderInvariant reader.new) }
     ensures refused { IfErr result (λ fault. (fault ≡ no_memory) ⊎ (refusal_below none_above (lines_of text.now) ≡ Some fault)) }
 {
     let mut rest = text;
@@ -62,7 +62,7 @@ fn check_end(alloc: Global, reader: &Reader) -> Result<(), ScriptFault>
 fn read_text(alloc: Global, text: &[u8], reader: &mut Reader) -> Result<(), ScriptFault>
     requires few { length text.now ≤ INPUT_BYTES }
     requires none { above_of reader.old ≡ none_above }
-    requires kept { IsKept reader.old }
+    requires kept { ReaderInvariant reader.old }
     ensures accepted { OnOk result (refusal_of text.now ≡ None) }
     ensures ends { OnOk result (LeavesWaiting text.now None) }
     ensures declared { OnOk result (above_of reader.new ≡ declared_in text.now) }
@@ -118,7 +118,7 @@ fn plan(alloc: Global, reader: &Reader) -> Result<Vec<CpuPlan>, ScriptFault>
 fn read_plans(alloc: Global, text: &[u8], reader: &mut Reader) -> Result<Vec<CpuPlan>, ScriptFault>
     requires few { length text.now ≤ INPUT_BYTES }
     requires none { above_of reader.old ≡ none_above }
-    requires kept { IsKept reader.old }
+    requires kept { ReaderInvariant reader.old }
     ensures accepted { IfOk result (λ _. refusal_of text.now ≡ None) }
     ensures ends { IfOk result (λ _. LeavesWaiting text.now None) }
     ensures loaded { IfOk result (λ _. LeavesUnloaded text.now None) }

@@ -13,11 +13,11 @@ use Rattle.ft_base.proofs.Small.{false_true, ==-refl, and_both}
 use Rattle.ft_hist.specs.Past.{Entered, entered, done, is_open}
 use Rattle.ft_hist.specs.Plain.{plain, PlainTask}
 use Rattle.ft_hist.specs.Rules.{IsLegal, IsLegalPast}
-use Rattle.ft_hist.proofs.HeldLaws.{top-open}
+use Rattle.ft_hist.proofs.FrameCounts.{top-open}
 use Rattle.ft_hist.proofs.Numbers.{moved, some-run}
 use Rattle.ft_hist.proofs.RunLaws.{Keeps}
-use Rattle.ft_hist.proofs.Told.{legal-to}
-use Rattle.ft_hist.proofs.ToldExits.{exit-of}
+use Rattle.ft_hist.proofs.ItemOrders.{legal-to}
+use Rattle.ft_hist.proofs.ExitItems.{exit-of}
 use Rattle.func_profile.specs.Rows.{IsEntered, HasRows}
 use Rattle.ft_hist.proofs.Named.{EnterNamed, enter-named}
 use Rattle.ft_hist.proofs.Steps.{own-step}

@@ -17,7 +17,7 @@ use Rattle.indexmap.specs.IndexMap.{insert_entry}
 use Rattle.indexmap.proofs.MapLemmas.{insert_entry-absent, Missing-position}
 use Rattle.ft_base.specs.Job.{Func}
 use Rattle.func_table.specs.Rows.{Table, IsNamed, IsTable, names_of, number_of}
-use Rattle.func_table.specs.Kept.{func_of}
+use Rattle.func_table.specs.TableFields.{func_of}
 
 abbrev Entries : Type 0
 Entries = List (String Global × Option (String Global))

@@ -1,3 +1,3 @@
 pub mod Rows
-pub mod Kept
+pub mod TableFields
 pub mod Modules

@@ -23,7 +23,7 @@ pub struct FuncTable {
 
 impl Model for FuncTable {
     ghost use Rattle.func_table.specs.Rows.{Table, IsTable};
-    ghost use Rattle.func_table.specs.Kept.{table_of};
+    ghost use Rattle.func_table.specs.TableFields.{table_of};
 
     ghost Value = { Table };
 

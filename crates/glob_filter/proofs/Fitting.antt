@@ -2,7 +2,7 @@
 use Rattle.std.proofs.Common.{◌≡◌, ◌↔◌, ℕ, List, [], ◌∷◌, ◌++◌, refl, sym, ap, subst, Bool, true, false, true≢false, IsTrue, ◌||◌}
 use Rattle.std.proofs.lemmas.Bool.{and_from, and_parts, or_left, or_right}
 use Rattle.glob_filter.specs.Items.{Item, byte, any, star, class}
-use Rattle.glob_filter.specs.Fits.{takes, some_rest, Fits, is_fit}
+use Rattle.glob_filter.specs.Matching.{takes, some_rest, Fits, is_fit}
 
 -- the test passes at what is left of the name after some of its bytes
 abbrev SomeRest : (List ℕ → Bool) → List ℕ → Type 0

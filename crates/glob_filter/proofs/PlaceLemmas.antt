@@ -4,8 +4,8 @@ use Rattle.std.proofs.Math.Bool.{or-false}
 use Rattle.std.proofs.lemmas.List.{drop_more}
 use Rattle.std.proofs.lemmas.Bool.{and_from, and_parts, or_cases, or_left, or_right, eq-eqb, ne_eqb, eqb-true}
 use Rattle.glob_filter.specs.Items.{Item, byte, any, star, class}
-use Rattle.glob_filter.specs.Fits.{takes, some_rest, is_fit}
-use Rattle.glob_filter.specs.Kept.{item_of, items_kept}
+use Rattle.glob_filter.specs.Matching.{takes, some_rest, is_fit}
+use Rattle.glob_filter.specs.TokenItems.{item_of, token_items}
 use Rattle.glob_filter.specs.declared.token.Token.{Token}
 use Rattle.glob_filter.specs.declared.token.Token.TheVariants.{Byte, Any, Star, Class}
 use Rattle.glob_filter.specs.Places.{has_place, has_byte, matches_from, AreBytes, StandsFor, IsFilled}
@@ -143,9 +143,9 @@ IsFilled-one t u s p item items one filled bytes =
 
 -- one token more, which stands before those from v on
 pub items_from : (tokens : List Token) (v w : ℕ) (token : Token) → v ≡ w + 1 → w < length tokens → token ≡ get_or tokens w token
-    → items_kept (drop w tokens) ≡ item_of token ∷ items_kept (drop v tokens)
+    → token_items (drop w tokens) ≡ item_of token ∷ token_items (drop v tokens)
 items_from tokens v w token one within is =
-    ap items_kept (drop_more tokens w token within) ∙ ap₂ (λ t n. item_of t ∷ items_kept (drop n tokens)) (sym is) (sym one)
+    ap token_items (drop_more tokens w token within) ∙ ap₂ (λ t n. item_of t ∷ token_items (drop n tokens)) (sym is) (sym one)
 
 -- ---- the search
 

@@ -4,7 +4,7 @@ use Rattle.std.specs.List.{list_any}
 use Rattle.std.proofs.lemmas.Bool.{cases_lt, lt-ltb}
 use Rattle.std.proofs.lemmas.List.{map_push}
 use Rattle.glob_filter.specs.Items.{first_item, items_after, items_of}
-use Rattle.glob_filter.specs.Kept.{item_of, items_kept}
+use Rattle.glob_filter.specs.TokenItems.{item_of, token_items}
 use Rattle.glob_filter.specs.Causes.{backslash, first_cause}
 use Rattle.glob_filter.specs.declared.faults.PatternFault.TheVariants.{Empty, Backslash, TooLong}
 use Rattle.ft_base.specs.declared.limits.TheConstants.{PATTERN_BYTES}
@@ -23,14 +23,14 @@ drop_one_more b text n = ap (λ k. drop k (b ∷ text)) (add_comm 1 n ∙ add-on
 -- if the items so far and those of the rest are the text's, so are they when the rest's first item is read
 pub one_more : (text : List ℕ) (tokens : List Token) (token : Token) (rest : List ℕ) (b : ℕ) (others after : List ℕ)
     → rest ≡ b ∷ others → item_of token ≡ (first_item b others).0 → after ≡ drop (first_item b others).1 others
-    → items_kept tokens ++ items_of rest ≡ items_of text → items_kept (tokens ++ token ∷ []) ++ items_of after ≡ items_of text
+    → token_items tokens ++ items_of rest ≡ items_of text → token_items (tokens ++ token ∷ []) ++ items_of after ≡ items_of text
 one_more text tokens token rest b others after rest_is token_is after_is so_far =
-    let pushed : items_kept (tokens ++ token ∷ []) ++ items_of after ≡ items_kept tokens ++ (item_of token ∷ items_of after) =
-    ap (λ items. items ++ items_of after) (map_push item_of tokens token) ∙ append_assoc (items_kept tokens) (item_of token ∷ []) (items_of after) in
+    let pushed : token_items (tokens ++ token ∷ []) ++ items_of after ≡ token_items tokens ++ (item_of token ∷ items_of after) =
+    ap (λ items. items ++ items_of after) (map_push item_of tokens token) ∙ append_assoc (token_items tokens) (item_of token ∷ []) (items_of after) in
     let first : item_of token ∷ items_of after ≡ items_of (b ∷ others) =
     ap (λ item. item ∷ items_of after) token_is
     ∙ ap (λ items. (first_item b others).0 ∷ items) (ap items_of after_is ∙ sym (items_after-drop (first_item b others).1 others)) in
-    pushed ∙ ap (λ items. items_kept tokens ++ items) (first ∙ ap items_of (sym rest_is)) ∙ so_far
+    pushed ∙ ap (λ items. token_items tokens ++ items) (first ∙ ap items_of (sym rest_is)) ∙ so_far
 
 -- reading an item leaves no more of the text
 pub length_after : (tokens : List Token) (token : Token) (all : ℕ) (rest : List ℕ) (b n : ℕ) (others after : List ℕ) → rest ≡ b ∷ others → after ≡ drop n others

@@ -1,6 +1,6 @@
 pub mod Places
 pub mod Causes
-pub mod Fits
+pub mod Matching
 pub mod Grammar
 pub mod Items
-pub mod Kept
+pub mod TokenItems

@@ -4,7 +4,7 @@
 use Rattle.std.specs.Prelude.{◌≡◌, ◌+◌, ◌*◌, ◌/◌, ◌%◌, ◌<◌, ◌==◌, ◌&&◌, ◌||◌, ℕ, zero, suc, Bool, true, false, List, [], ◌∷◌, slice_index}
 use Rattle.std.specs.Int.{bit_at}
 use Rattle.glob_filter.specs.Items.{Item}
-use Rattle.glob_filter.specs.Fits.{is_fit}
+use Rattle.glob_filter.specs.Matching.{is_fit}
 
 -- whether the words have the bit of the place
 abbrev pub has_place : List ℕ → ℕ → Bool

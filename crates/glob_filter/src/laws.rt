@@ -3,7 +3,7 @@
 ghost use Rattle.std.specs.Prelude.{◌≡◌, ◌↔◌, ℕ, List, IsTrue};
 ghost use Rattle.glob_filter.specs.Items.{Item, items_of};
 ghost use Rattle.glob_filter.specs.Grammar.{HasItems};
-ghost use Rattle.glob_filter.specs.Fits.{Fits, is_fit};
+ghost use Rattle.glob_filter.specs.Matching.{Fits, is_fit};
 
 /// The test that `matches` computes passes exactly if the name can be cut into pieces that the items
 /// match in order.

@@ -2,7 +2,7 @@
 
 ghost use Rattle.std.specs.Prelude.{◌≡◌, ◌≤◌, length, map, drop, IfOk};
 ghost use Rattle.glob_filter.specs.Items.{ranges_of, class_end, class_at, first_item, items_of};
-ghost use Rattle.glob_filter.specs.Kept.{bounds_of, item_of, items_kept};
+ghost use Rattle.glob_filter.specs.TokenItems.{bounds_of, item_of, token_items};
 
 use crate::token::{ByteRange, Token};
 use std::alloc::{AllocError, Global};
@@ -75,7 +75,7 @@ fn read_token(alloc: Global, first: u8, text: &[u8]) -> Result<(Token, &[u8]), A
 
 /// The items of a text.
 pub fn read_tokens(alloc: Global, text: &[u8]) -> Result<Vec<Token>, AllocError>
-    ensures items { IfOk result (λ v. items_kept v.items ≡ items_of text.now) }
+    ensures items { IfOk result (λ v. token_items v.items ≡ items_of text.now) }
     ensures most { IfOk result (λ v. length v.items ≤ length text.now) }
 {
     let mut tokens = Vec::new(alloc);

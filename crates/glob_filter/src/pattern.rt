@@ -2,7 +2,7 @@
 
 ghost use Rattle.std.specs.Prelude.{◌≡◌, ◌↔◌, IsTrue, IfOk, IfErr, OnOk, Some, None};
 ghost use Rattle.glob_filter.specs.Items.{items_of};
-ghost use Rattle.glob_filter.specs.Fits.{Fits, is_fit};
+ghost use Rattle.glob_filter.specs.Matching.{Fits, is_fit};
 ghost use Rattle.glob_filter.specs.Causes.{first_cause, IsCause};
 
 use crate::faults::{PatternFault, find_cause};
@@ -25,13 +25,13 @@ impl Model for Pattern {
 
     ghost Value = { List Item };
 
-    ghost use Rattle.glob_filter.specs.Kept.{items_kept};
+    ghost use Rattle.glob_filter.specs.TokenItems.{token_items};
 
-    ghost view = { λ p. items_kept p.tokens.items };
+    ghost view = { λ p. token_items p.tokens.items };
 
     ghost use Rattle.glob_filter.specs.Places.{StandsFor};
 
-    ghost invariant = { λ p. StandsFor p.places.takes.items p.places.stars.items p.places.start (items_kept p.tokens.items) };
+    ghost invariant = { λ p. StandsFor p.places.takes.items p.places.stars.items p.places.start (token_items p.tokens.items) };
 }
 
 impl Pattern {

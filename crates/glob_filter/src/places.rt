@@ -2,8 +2,8 @@
 
 ghost use Rattle.std.specs.Prelude.{◌≡◌, ℕ, ◌+◌, ◌*◌, ◌/◌, ◌<◌, ◌≤◌, ◌==◌, ◌&&◌, ◌||◌, ◌∷◌, false, List, length, map, IfOk};
 ghost use Rattle.glob_filter.specs.Items.{Item};
-ghost use Rattle.glob_filter.specs.Fits.{takes};
-ghost use Rattle.glob_filter.specs.Kept.{item_of, items_kept};
+ghost use Rattle.glob_filter.specs.Matching.{takes};
+ghost use Rattle.glob_filter.specs.TokenItems.{item_of, token_items};
 ghost use Rattle.glob_filter.specs.Places.{has_place, has_byte, matches_from, StandsFor, IsFilled};
 
 use crate::bits::{has_none, set_byte, set_place, step};
@@ -33,7 +33,7 @@ impl Places {
     /// The places of a pattern's items. The error says that memory ran out.
     pub fn new(alloc: Global, tokens: &[Token]) -> Result<Places, AllocError>
         requires { length tokens.now ≤ PATTERN_BYTES }
-        ensures { IfOk result (λ places. StandsFor places.takes.items places.stars.items places.start (items_kept tokens.now)) }
+        ensures { IfOk result (λ places. StandsFor places.takes.items places.stars.items places.start (token_items tokens.now)) }
     {
         let words = tokens.len() / 64 + 1;
         let mut takes = vec![in alloc; 0u64; 256 * words]?;
@@ -68,7 +68,7 @@ fn fill(takes: &mut [u64], stars: &mut [u64], tokens: &[Token]) -> usize
     requires room { length tokens.now / 64 < length stars.old }
     requires no_bytes { (p b : ℕ) → b < 256 → has_byte takes.old p b ≡ false }
     requires no_stars { (p : ℕ) → has_place stars.old p ≡ false }
-    ensures fits { StandsFor takes.new stars.new result (items_kept tokens.now) }
+    ensures fits { StandsFor takes.new stars.new result (token_items tokens.now) }
     ensures most { result ≤ length tokens.now }
     ensures takes { length takes.new ≡ length takes.old }
     ensures stars { length stars.new ≡ length stars.old }

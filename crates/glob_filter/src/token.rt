@@ -2,8 +2,8 @@
 
 ghost use Rattle.std.specs.Prelude.{◌≡◌};
 ghost use Rattle.std.specs.List.{list_any};
-ghost use Rattle.glob_filter.specs.Fits.{in_range, takes};
-ghost use Rattle.glob_filter.specs.Kept.{bounds_of, item_of};
+ghost use Rattle.glob_filter.specs.Matching.{in_range, takes};
+ghost use Rattle.glob_filter.specs.TokenItems.{bounds_of, item_of};
 
 /// The bytes from `first` to `last`; none if `last` is below `first`.
 #[derive(Clone, Copy, Debug)]

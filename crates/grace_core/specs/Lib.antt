@@ -1,4 +1,4 @@
 pub mod Views
 pub mod Waits
-pub mod KeptWait
+pub mod WaitInvariant
 pub mod Pasts

@@ -35,13 +35,13 @@ pub struct Waiter {
 
 impl Model for Waiter {
     ghost use Rattle.grace_core.specs.Waits.{Wait};
-    ghost use Rattle.grace_core.specs.KeptWait.{wait_of, IsKeptWait};
+    ghost use Rattle.grace_core.specs.WaitInvariant.{wait_of, WaitInvariant};
 
     ghost Value = { Wait };
 
     ghost view = { wait_of };
 
-    ghost invariant = { IsKeptWait };
+    ghost invariant = { WaitInvariant };
 }
 
 impl Waiter {

@@ -1,6 +1,6 @@
 pub mod Pages
 pub mod Reads
-pub mod KeptPage
-pub mod KeptRead
+pub mod PageInvariant
+pub mod ReadInvariant
 pub mod Found
 pub mod Written

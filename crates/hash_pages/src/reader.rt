@@ -5,7 +5,7 @@ ghost use Rattle.word_map.specs.Words.{Bits};
 ghost use Rattle.word_map.specs.Places.{half_number};
 ghost use Rattle.word_map.specs.Ops.{Load, placed};
 ghost use Rattle.hash_pages.specs.Reads.{read_by, read_got, read_next, sets_read, state_read, verdict_of};
-ghost use Rattle.hash_pages.specs.KeptRead.{IsPhase};
+ghost use Rattle.hash_pages.specs.ReadInvariant.{IsPhase};
 
 use ft_base::{FuncNo, Half, UserNo};
 use std::marker::Model;
@@ -49,7 +49,7 @@ pub struct PageReader {
 
 impl Model for PageReader {
     ghost use Rattle.hash_pages.specs.Reads.{Read};
-    ghost use Rattle.hash_pages.specs.KeptRead.{IsKept, fields_of, read_of};
+    ghost use Rattle.hash_pages.specs.ReadInvariant.{ReadInvariant, fields_of, read_of};
 
     ghost Value = { Read };
 
@@ -57,7 +57,7 @@ impl Model for PageReader {
 
     ghost inverse = { fields_of };
 
-    ghost invariant = { IsKept };
+    ghost invariant = { ReadInvariant };
 }
 
 impl PageReader {

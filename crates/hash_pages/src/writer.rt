@@ -28,7 +28,7 @@ pub struct PageWriter {
 
 impl Model for PageWriter {
     ghost use Rattle.hash_pages.specs.Pages.{Page};
-    ghost use Rattle.hash_pages.specs.KeptPage.{IsKept, fields_of, page_of};
+    ghost use Rattle.hash_pages.specs.PageInvariant.{PageInvariant, fields_of, page_of};
 
     ghost Value = { Page };
 
@@ -36,7 +36,7 @@ impl Model for PageWriter {
 
     ghost inverse = { fields_of };
 
-    ghost invariant = { IsKept };
+    ghost invariant = { PageInvariant };
 }
 
 impl PageWriter {

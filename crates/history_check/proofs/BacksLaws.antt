@@ -24,8 +24,8 @@ use Rattle.ft_hist.proofs.RunLaws.{same_call-eq, some_inj}
 use Rattle.history_check.specs.declared.backs.Check.{Check}
 use Rattle.history_check.specs.declared.backs.Entry.{Entry}
 use Rattle.history_check.specs.Backs.{KeepsBacks}
-use Rattle.history_check.specs.KeptBacks.{AreCalls, HasEntered, HasVisited, IsCheck, IsEntry, entry_at, is_before, is_visited, no_entry, with_latest}
-use Rattle.history_check.specs.KeptCalls.{IsContextOf}
+use Rattle.history_check.specs.CallbackCheck.{AreCalls, HasEntered, HasVisited, IsCheck, IsEntry, entry_at, is_before, is_visited, no_entry, with_latest}
+use Rattle.history_check.specs.TaskCalls.{IsContextOf}
 use Rattle.history_check.proofs.VisitLaws as law
 
 -- ## items that tell nothing of calls and visits

@@ -31,9 +31,9 @@ use Rattle.history_check.specs.declared.open_call.Visit.{Visit}
 use Rattle.history_check.specs.declared.task_past.Due.{Due}
 use Rattle.history_check.specs.declared.task_past.TaskPast.{TaskPast}
 use Rattle.history_check.specs.declared.past.Past.{Past}
-use Rattle.history_check.specs.KeptCallbacks.{callbacks_of}
-use Rattle.history_check.specs.KeptCalls.{AreCallsOf, AreStacked, AreTasksOf, HasRoom, IsContextOf, IsDueBy, IsOfJob, IsTaskPast, IsTop, IsVisitBy, due_of, visit_of}
-use Rattle.history_check.specs.KeptPast.{IsMet, IsPast, IsPastAt, IsTopOf, is_enter, lines_after, waits_passed}
+use Rattle.history_check.specs.CallbackList.{callbacks_of}
+use Rattle.history_check.specs.TaskCalls.{AreCallsOf, AreStacked, AreTasksOf, HasRoom, IsContextOf, IsDueBy, IsOfJob, IsTaskPast, IsTop, IsVisitBy, due_of, visit_of}
+use Rattle.history_check.specs.JudgePast.{IsMet, IsPast, IsPastAt, IsTopOf, is_enter, lines_after, waits_passed}
 use Rattle.history_check.proofs.FollowRuns.{all-met, of-job}
 use Rattle.history_check.proofs.FollowTask.{not-enter, top-of}
 use Rattle.history_check.proofs.OpenStacks.{after-other, few-calls, few-left, of-own}

@@ -10,7 +10,7 @@ use Rattle.ft_hist.specs.Plain.{PlainTask, at_start, plain}
 use Rattle.ft_hist.specs.Rules.{acts_passed}
 use Rattle.ft_hist.proofs.Finishing.{passed-is, acts_done-more}
 use Rattle.ft_hist.proofs.OpenCallbacks.{no-item}
-use Rattle.history_check.specs.KeptPast.{IsMet}
+use Rattle.history_check.specs.JudgePast.{IsMet}
 use Rattle.history_check.proofs.OpenStacks.{run-of}
 
 always : {A : Type 0} (b : Bool) (x : A) → cond b x x ≡ x

@@ -14,14 +14,14 @@ use Rattle.std.proofs.lemmas.Bool.Decides.{eqb_tells}
 use Rattle.ft_base.proofs.Small.{Each-weaker, ==-refl, false_true}
 use Rattle.ft_hist.specs.Past.{all_visits, done, done_at_leave, exits, held, is_dispatched, is_of, visits}
 use Rattle.ft_hist.specs.Plain.{PlainTask, plain}
-use Rattle.ft_hist.proofs.HeldLaws.{held-is, not_same, not_same'}
+use Rattle.ft_hist.proofs.FrameCounts.{held-is, not_same, not_same'}
 use Rattle.ft_hist.proofs.Laws.{plain-other, same_call-refl}
 use Rattle.ft_hist.proofs.Numbers.{moved, next-moved, none-before}
 use Rattle.ft_hist.proofs.RunLaws.{Keeps, Moves, calls_on, some_inj, sound}
 use Rattle.ft_hist.proofs.Since.{touches}
 use Rattle.history_check.specs.declared.open_call.OpenCall.{OpenCall}
-use Rattle.history_check.specs.KeptCalls.{AreCallsOf, AreStacked, IsOpenCall, called, holding, is_inside}
-use Rattle.history_check.specs.KeptPast.{is_enter}
+use Rattle.history_check.specs.TaskCalls.{AreCallsOf, AreStacked, IsOpenCall, called, holding, is_inside}
+use Rattle.history_check.specs.JudgePast.{is_enter}
 use Rattle.history_check.proofs.OpenCalls.{calls-stay, holding-stays, stacked-stays, touch-other}
 use Rattle.history_check.proofs.OpenStacks.{call_in, calls-same, each-call, holding-calls, keeps-of, moved-on, next-run, none-on-top, on-stack, on-top, own-call, uncons-head}
 

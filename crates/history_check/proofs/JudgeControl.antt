@@ -17,7 +17,7 @@ use Rattle.ft_hist.specs.Plain.{at_start}
 use Rattle.ft_hist.specs.Rules.{HasWaited, MayBegin, acts_passed, IsAnswered}
 use Rattle.history_check.specs.declared.past.Past.{Past}
 use Rattle.history_check.specs.declared.task_past.TaskPast.{TaskPast}
-use Rattle.history_check.specs.KeptPast.{IsMet, IsPast, lines_after, waits_passed}
+use Rattle.history_check.specs.JudgePast.{IsMet, IsPast, lines_after, waits_passed}
 use Rattle.history_check.specs.TakenOff.{answer_of}
 use Rattle.history_check.proofs.FollowPast.{get-none}
 

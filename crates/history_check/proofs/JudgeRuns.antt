@@ -21,8 +21,8 @@ use Rattle.ft_hist.proofs.RunLaws.{Moves, step-moves, some_inj}
 use Rattle.ft_hist.proofs.Steps.{run-holds}
 use Rattle.history_check.specs.declared.past.Past.{Past}
 use Rattle.history_check.specs.declared.task_past.TaskPast.{TaskPast}
-use Rattle.history_check.specs.KeptCalls.{IsTaskPast}
-use Rattle.history_check.specs.KeptPast.{IsAtEnd, IsPast, IsPastAt}
+use Rattle.history_check.specs.TaskCalls.{IsTaskPast}
+use Rattle.history_check.specs.JudgePast.{IsAtEnd, IsPast, IsPastAt}
 use Rattle.history_check.proofs.FollowPast.{set-each}
 use Rattle.history_check.proofs.OpenStacks.{of-own}
 

@@ -6,9 +6,9 @@ use Rattle.std.proofs.lemmas.Option.{get_or_from_slice_get}
 use Rattle.ft_base.specs.declared.task.TaskAct.{TaskAct}
 use Rattle.ft_base.specs.Job.{Job, Task, no_task}
 use Rattle.ft_hist.specs.Plain.{plain}
-use Rattle.history_check.specs.KeptRuns.{starting}
+use Rattle.history_check.specs.PlainRuns.{starting}
 use Rattle.history_check.specs.declared.task_past.TaskPast.{TaskPast}
-use Rattle.history_check.specs.KeptCalls.{AreStacked, IsTaskPast}
+use Rattle.history_check.specs.TaskCalls.{AreStacked, IsTaskPast}
 
 -- a task has no more acts than all have
 pub few-acts : (ts : List Task) (i : ℕ) (t : Task) → slice_get ts i ≡ Some t → length t.acts ≤ sum_by (λ x. length x.acts) ts

@@ -6,7 +6,7 @@ use Rattle.ft_base.specs.Job.{Job}
 use Rattle.ft_hist.specs.Rules.{IsLegal, IsLegalPast, IsWhole, MayFollow}
 use Rattle.ft_hist.specs.Telling.{past_at}
 use Rattle.history_check.specs.declared.verdict.Rule.{Rule}
-use Rattle.history_check.specs.KeptPast.{IsAtEnd}
+use Rattle.history_check.specs.JudgePast.{IsAtEnd}
 use Rattle.history_check.specs.Parts.{BreaksFirst}
 use Rattle.history_check.specs.Verdicts.{IsBroken}
 use Rattle.history_check.proofs.PastLaws.{past-all}

@@ -1,11 +1,11 @@
-pub mod KeptDesks
-pub mod KeptMaps
+pub mod DeskRowLaws
+pub mod CheckMaps
 pub mod BacksLaws
 pub mod SilentLaws
 pub mod VisitLaws
 pub mod PastLaws
 pub mod VerdictLaws
-pub mod ToldLaws
+pub mod DeskNumberLaws
 pub mod JudgeControl
 pub mod JudgeRuns
 pub mod JudgeVerdicts

@@ -15,7 +15,7 @@ use Rattle.ft_hist.specs.Past.{callbacks, ended, is_called}
 use Rattle.ft_hist.specs.Past as told
 use Rattle.ft_hist.specs.Rules.{IsStill}
 use Rattle.history_check.specs.declared.callbacks.Callback.{Callback}
-use Rattle.history_check.specs.KeptCallbacks.{callback_of}
+use Rattle.history_check.specs.CallbackList.{callback_of}
 use Rattle.history_check.specs.TakenOff.{taken_by, taken_off}
 
 pub any-told : (test : told.Callback → Bool) (bs : List Callback) → list_any (λ b. test (callback_of b)) bs ≡ list_any test (map callback_of bs)

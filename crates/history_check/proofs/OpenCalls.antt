@@ -13,7 +13,7 @@ use Rattle.ft_hist.proofs.RunLaws.{some_inj}
 use Rattle.ft_hist.proofs.Since.{Untouched, holds-untouched, touches, untouched-item}
 use Rattle.ft_hist.proofs.Laws.{other-task}
 use Rattle.history_check.specs.declared.open_call.OpenCall.{OpenCall}
-use Rattle.history_check.specs.KeptCalls.{AreStacked, IsOpenCall, holding}
+use Rattle.history_check.specs.TaskCalls.{AreStacked, IsOpenCall, holding}
 
 -- an item of one call says nothing of another
 pub touch-other : (c call : CallNo) (item : Item) → call_of item ≡ Some call → same_call call c ≡ false → touches c item ≡ false

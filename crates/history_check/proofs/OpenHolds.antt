@@ -12,7 +12,7 @@ use Rattle.ft_hist.specs.Past.{is_dispatched, visits}
 use Rattle.ft_hist.proofs.Since.{holds-by, holds_by}
 use Rattle.history_check.specs.declared.open_call.OpenCall.{OpenCall}
 use Rattle.history_check.specs.declared.open_call.Visit.{Visit}
-use Rattle.history_check.specs.KeptCalls.{IsOpenCall, keeps_frame, visit_of}
+use Rattle.history_check.specs.TaskCalls.{IsOpenCall, keeps_frame, visit_of}
 
 any-kept : (job : Job) (call : CallNo) (d : Bool) (ms : List Visit) → holds_by job true d (map (visit_of call) ms) ≡ list_any (keeps_frame job d) ms
 any-kept job call true ms = by ms

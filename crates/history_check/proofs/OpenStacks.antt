@@ -12,7 +12,7 @@ use Rattle.ft_base.proofs.Small.{false_true, Each-weaker}
 use Rattle.ft_hist.specs.Past.{calls, is_of, is_open}
 use Rattle.ft_hist.specs.Plain.{Frame, PlainTask, plain}
 use Rattle.ft_hist.specs.Telling.{open_calls}
-use Rattle.ft_hist.proofs.HeldLaws.{not_same, opens}
+use Rattle.ft_hist.proofs.FrameCounts.{not_same, opens}
 use Rattle.ft_hist.proofs.Laws.{plain-other}
 use Rattle.ft_hist.proofs.Numbers.{moved}
 use Rattle.ft_hist.proofs.RunLaws.{Keeps, Moves, calls_on, some_inj, sound}
@@ -20,8 +20,8 @@ use Rattle.ft_hist.proofs.Since.{touches}
 use Rattle.ft_hist.proofs.Since.{holding as holding_on}
 use Rattle.ft_hist.specs.Known.{holds}
 use Rattle.history_check.specs.declared.open_call.OpenCall.{OpenCall}
-use Rattle.history_check.specs.KeptCalls.{AreCallsOf, AreStacked, IsOpenCall, calls_of, holding, is_inside}
-use Rattle.history_check.specs.KeptPast.{is_enter}
+use Rattle.history_check.specs.TaskCalls.{AreCallsOf, AreStacked, IsOpenCall, calls_of, holding, is_inside}
+use Rattle.history_check.specs.JudgePast.{is_enter}
 use Rattle.history_check.proofs.OpenCalls.{AreUntouched, calls-stay, stacked-stays, touch-other, touch-task}
 
 pub calls-same : (fs : List Frame) → calls_of fs ≡ calls_on fs

@@ -11,7 +11,7 @@ use Rattle.ft_base.proofs.Small.{and_both}
 use Rattle.ft_hist.specs.Past.{visits}
 use Rattle.history_check.specs.declared.open_call.OpenCall.{OpenCall}
 use Rattle.history_check.specs.declared.open_call.Visit.{Visit}
-use Rattle.history_check.specs.KeptCalls.{IsTop, visit_of}
+use Rattle.history_check.specs.TaskCalls.{IsTop, visit_of}
 use Rattle.history_check.proofs.RuleCalls.{visits-are}
 
 -- ## visits

@@ -12,8 +12,8 @@ use Rattle.ft_hist.specs.Rules.{InWindow}
 use Rattle.ft_hist.proofs.RunLaws.{some_inj}
 use Rattle.history_check.specs.declared.open_call.OpenCall.{OpenCall}
 use Rattle.history_check.specs.declared.open_call.Visit.{Visit}
-use Rattle.history_check.specs.KeptCalls.{IsTop, visit_of}
-use Rattle.history_check.specs.KeptPast.{IsTopOf, is_enter}
+use Rattle.history_check.specs.TaskCalls.{IsTop, visit_of}
+use Rattle.history_check.specs.JudgePast.{IsTopOf, is_enter}
 
 -- whether a user is among the visits
 any-visit : (call : CallNo) (u : ℕ) (ms : List Visit) → list_any (λ m. m.user.0 == u) ms ≡ list_any (λ m. m.user == u) (map (visit_of call) ms)

@@ -14,7 +14,7 @@ use Rattle.ft_hist.specs.Past.{Visit as Told, begun, visits}
 use Rattle.ft_hist.specs.Rules.{AtReturnedOrBegun, HasExit, AreExitsDone, IsExitDone, MayExit}
 use Rattle.history_check.specs.declared.open_call.OpenCall.{OpenCall}
 use Rattle.history_check.specs.declared.open_call.Visit.{Visit}
-use Rattle.history_check.specs.KeptCalls.{IsTop, visit_of}
+use Rattle.history_check.specs.TaskCalls.{IsTop, visit_of}
 use Rattle.history_check.proofs.OpenStacks.{each-map as map-each}
 use Rattle.history_check.proofs.RuleCalls.{exits-are, left-is, visits-are}
 use Rattle.history_check.proofs.RuleTests.{no, yes}

@@ -12,7 +12,7 @@ use Rattle.ft_base.proofs.Small.{false_true, and_both, ==-refl}
 use Rattle.ft_hist.specs.Past.{Visit as Told}
 use Rattle.ft_hist.specs.Rules.{OneReplaces, backs_with_replacement, replacement}
 use Rattle.history_check.specs.declared.open_call.Visit.{Visit}
-use Rattle.history_check.specs.KeptCalls.{visit_of}
+use Rattle.history_check.specs.TaskCalls.{visit_of}
 
 -- ## whom it lets in
 

@@ -15,8 +15,8 @@ use Rattle.ft_hist.proofs.Named.{EnterNamed, enter-named}
 use Rattle.ft_hist.proofs.Steps.{run-holds}
 use Rattle.history_check.specs.declared.open_call.OpenCall.{OpenCall}
 use Rattle.history_check.specs.declared.past.Past.{Past}
-use Rattle.history_check.specs.KeptCalls.{IsTop}
-use Rattle.history_check.specs.KeptPast.{IsPast}
+use Rattle.history_check.specs.TaskCalls.{IsTop}
+use Rattle.history_check.specs.JudgePast.{IsPast}
 
 module _ (job : Job) (is : IsWellFormed job) (call : CallNo) where
   entered-more : (item : Item) (past : List Item) → EnterNamed (funcs job) item → ((e : Entered) → entered call past ≡ Some e → e.func < funcs job) → (e : Entered) → entered call (item ∷ past) ≡ Some e → e.func < funcs job

@@ -7,7 +7,7 @@ use Rattle.ft_base.specs.declared.task.TaskAct.{TaskAct}
 use Rattle.ft_base.specs.declared.task.TaskAct.TheVariants.{After, Call, Lower, Raise, Ret}
 use Rattle.ft_base.proofs.Small.{and_both}
 use Rattle.ft_hist.specs.Rules.{GiveNoItems}
-use Rattle.history_check.specs.KeptRuns.{is_silent}
+use Rattle.history_check.specs.PlainRuns.{is_silent}
 
 all-silent : (returned : ℕ) (acts : List TaskAct) → list_all (is_silent returned) acts ≡ true → GiveNoItems returned acts
 all-silent returned [] e = tt

@@ -12,7 +12,7 @@ use Rattle.ft_base.specs.Job.{Job}
 use Rattle.ft_base.specs.Same.{same_call}
 use Rattle.ft_hist.specs.Plain.{PlainTask, Frame, Phase, Dispatch, InBack, Leaving, InExit, on_call, in_phase, after_back, after_back_end, after_miss, after_refusal, after_body, after_exit, after_exit_end, after_item}
 use Rattle.ft_hist.proofs.RunLaws.{some_inj}
-use Rattle.history_check.specs.KeptRuns.{IsStep, moved, phase_after, top_if}
+use Rattle.history_check.specs.PlainRuns.{IsStep, moved, phase_after, top_if}
 
 -- the top call is this one
 pub record IsTop (s : PlainTask) (call : CallNo) (t : Frame) : Type 0 where

@@ -9,7 +9,7 @@ use Rattle.ft_base.specs.Desk.{desk, is_on}
 use Rattle.ft_base.proofs.Small.{false_true}
 use Rattle.ft_hist.specs.Past.{begun, entry_of, visits}
 use Rattle.ft_hist.specs.Rules.{InWindow, IsSilent}
-use Rattle.history_check.specs.KeptDesks.{WasOff}
+use Rattle.history_check.specs.DeskRows.{WasOff}
 
 -- each of the first n users was visited or off
 abbrev pub SilentBelow : Job → (ℕ → Bool) → ℕ → ℕ → ℕ → ℕ → Type 0

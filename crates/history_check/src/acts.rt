@@ -4,7 +4,7 @@ ghost use Rattle.std.specs.Prelude.{◌≡◌, ◌+◌, ◌<◌, ◌^◌, [], le
 ghost use Rattle.ft_hist.specs.Plain.{ahead};
 ghost use Rattle.ft_hist.specs.Rules.{GiveNoItems};
 ghost use Rattle.ft_base.specs.Same.{context};
-ghost use Rattle.history_check.specs.KeptRuns.{ahead_of, called, past_silent, returned};
+ghost use Rattle.history_check.specs.PlainRuns.{ahead_of, called, past_silent, returned};
 
 use ft_base::{Ctx, FuncNo, NoMemory, TaskAct};
 use std::alloc::Global;

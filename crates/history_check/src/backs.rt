@@ -10,8 +10,8 @@ ghost use Rattle.ft_base.specs.Same.{same_call};
 ghost use Rattle.ft_hist.specs.Past.{begun, done};
 ghost use Rattle.ft_hist.specs.Rules.{IsStill, MayVisit, IsSilent};
 ghost use Rattle.history_check.specs.Backs.{AreBacksLegal, KeepsBacks};
-ghost use Rattle.history_check.specs.KeptBacks.{AreCalls, HasEntered, HasVisited, IsCheck, IsNoted, entry_at, entry_in, is_before, is_visit_in, is_visited};
-ghost use Rattle.history_check.specs.KeptCalls.{IsContextOf};
+ghost use Rattle.history_check.specs.CallbackCheck.{AreCalls, HasEntered, HasVisited, IsCheck, IsNoted, entry_at, entry_in, is_before, is_visit_in, is_visited};
+ghost use Rattle.history_check.specs.TaskCalls.{IsContextOf};
 
 use crate::callbacks::Callbacks;
 use crate::desks::Desks;

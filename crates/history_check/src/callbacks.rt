@@ -7,9 +7,9 @@ ghost use Rattle.ft_base.specs.Same.{same_call};
 ghost use Rattle.ft_base.specs.Job.{Job as PlainJob, command_at};
 ghost use Rattle.ft_hist.specs.Past.{callbacks, ended, is_at, is_ctx};
 ghost use Rattle.ft_hist.specs.Rules.{IsStill};
-ghost use Rattle.history_check.specs.KeptCallbacks.{callback_of, callbacks_of};
-ghost use Rattle.history_check.specs.KeptCalls.{IsContextOf};
-ghost use Rattle.history_check.specs.KeptDesks.{AreOf};
+ghost use Rattle.history_check.specs.CallbackList.{callback_of, callbacks_of};
+ghost use Rattle.history_check.specs.TaskCalls.{IsContextOf};
+ghost use Rattle.history_check.specs.DeskRows.{AreOf};
 
 use crate::desks::Desks;
 use ft_base::{CallNo, Ctx, Item, NoMemory, TaskNo, UserNo};

@@ -7,13 +7,13 @@ ghost use Rattle.std.specs.Prelude.{◌≡◌, ◌^◌, ◌<◌, ◌≤◌, ◌=
 ghost use Rattle.ft_base.specs.Desk.{Desk as PlainDesk, desk, is_allowed, is_live, is_on, matches_by, target, user_at};
 ghost use Rattle.ft_base.specs.Job.{Job as PlainJob, commands, funcs};
 ghost use Rattle.ft_desk.specs.Declarations.{IsOf};
-ghost use Rattle.ft_desk.specs.Seen.{opened};
+ghost use Rattle.ft_desk.specs.DeskView.{opened};
 ghost use Rattle.ft_desk.specs.Lines.{IsLineIn, lines_of};
 ghost use Rattle.history_check.specs.TakenOff.{answer_of, taken_off};
-ghost use Rattle.history_check.specs.KeptDesks.{AreOf, AreRowsOf, IsDeskOf, IsSeenOf, IsSightOf, WasOff};
-ghost use Rattle.history_check.specs.KeptTold.{IsTold};
+ghost use Rattle.history_check.specs.DeskRows.{AreOf, AreRowsOf, IsDeskOf, IsRowOfView, IsSightOf, WasOff};
+ghost use Rattle.history_check.specs.DeskNumbers.{AreNumbersOf};
 
-use crate::told::Told;
+use crate::numbers::Numbers;
 use filter_hash::HashPair;
 use ft_base::limits::TASKS;
 use ft_base::{Answer, FuncNo, NoMemory, Ran, TaskNo, UserNo};
@@ -65,7 +65,7 @@ impl Desks {
         ensures { IfOk result (λ d. AreOf job.now d) }
     {
         let users = job.users();
-        let told = Told::new(alloc, users, job.tasks())?;
+        let told = Numbers::new(alloc, users, job.tasks())?;
         let (present, lines) = job.opening(alloc)?;
         let rows = rows_of(alloc, present, told, lines)?;
         Ok(Desks { users, rows })
@@ -227,11 +227,11 @@ impl Desks {
 fn rows_of(
     alloc: Global,
     mut present: Desk,
-    mut told: Told,
+    mut told: Numbers,
     lines: &[Ctl],
 ) -> Result<Vec<Row>, NoMemory>
     requires opened { present ≡ opened present.declared }
-    requires told { IsTold present.declared.tasks present.state 0 told }
+    requires told { AreNumbersOf present.declared.tasks present.state 0 told }
     requires named { All (IsLineIn present.declared) lines.now }
     requires few { length lines.now < 2 ^ 32 }
     ensures { IfOk result (λ rows. (job : PlainJob) → IsOf job present.declared → lines_of present.declared.tasks lines.now ≡ job.ctls
@@ -257,12 +257,12 @@ impl Row {
     fn new(
         alloc: Global,
         desk: &Desk,
-        told: &Told,
+        told: &Numbers,
         answer: Option<Answer>,
         off: Option<UserNo>,
     ) -> Result<Row, NoMemory>
-        requires { (n : ℕ) × IsTold desk.now.declared.tasks desk.now.state n told.now }
-        ensures row { IfOk result (λ r. IsSeenOf desk.now r) }
+        requires { (n : ℕ) × AreNumbersOf desk.now.declared.tasks desk.now.state n told.now }
+        ensures row { IfOk result (λ r. IsRowOfView desk.now r) }
         ensures answer { IfOk result (λ r. r.answer ≡ answer) }
         ensures off { IfOk result (λ r. r.off ≡ off) }
     {
@@ -292,8 +292,8 @@ impl Row {
 }
 
 /// The users of a desk. The error says that memory ran out.
-fn sights(alloc: Global, desk: &Desk, told: &Told) -> Result<Vec<Sight>, NoMemory>
-    requires { (n : ℕ) × IsTold desk.now.declared.tasks desk.now.state n told.now }
+fn sights(alloc: Global, desk: &Desk, told: &Numbers) -> Result<Vec<Sight>, NoMemory>
+    requires { (n : ℕ) × AreNumbersOf desk.now.declared.tasks desk.now.state n told.now }
     ensures size { IfOk result (λ v. length v.items ≡ length desk.now.declared.specs) }
     ensures each { IfOk result (λ v. (u : ℕ) (s : Sight) → slice_get v.items u ≡ Some s → IsSightOf (user_at desk.now.state u) s) }
 {
@@ -319,9 +319,9 @@ fn runs_of(alloc: Global, desk: &Desk) -> Result<Vec<Ran>, NoMemory>
 
 impl Sight {
     /// A user of a desk.
-    fn new(desk: &Desk, told: &Told, u: UserNo) -> Result<Sight, NoMemory>
+    fn new(desk: &Desk, told: &Numbers, u: UserNo) -> Result<Sight, NoMemory>
         requires user { u.0 < length desk.now.declared.specs }
-        requires told { (n : ℕ) × IsTold desk.now.declared.tasks desk.now.state n told.now }
+        requires told { (n : ℕ) × AreNumbersOf desk.now.declared.tasks desk.now.state n told.now }
         ensures { IfOk result (λ s. IsSightOf (user_at desk.now.state u.0) s) }
     {
         let pair = desk.pair(u).copy()?;

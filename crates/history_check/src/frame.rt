@@ -4,7 +4,7 @@ ghost use Rattle.std.specs.Prelude.{◌≡◌, map, option_map};
 ghost use Rattle.ft_base.specs.Desk.{spec_at};
 ghost use Rattle.ft_base.specs.Job.{Job as PlainJob};
 ghost use Rattle.ft_hist.specs.Plain.{owed_by};
-ghost use Rattle.history_check.specs.KeptRuns.{frame_of, owed_of, phase_after, phase_of, runs_script};
+ghost use Rattle.history_check.specs.PlainRuns.{frame_of, owed_of, phase_after, phase_of, runs_script};
 ghost use Rattle.user_specs.specs.Plain.{spec_of};
 
 use ft_base::{Act, CallNo, Ctx, FuncNo, Item, UserNo};

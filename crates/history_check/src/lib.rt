@@ -17,13 +17,13 @@ mod desks;
 mod frame;
 mod judging;
 mod laws;
+mod numbers;
 mod open_call;
 mod past;
 mod rules;
 mod run;
 mod take_in;
 mod task_past;
-mod told;
 mod users;
 mod verdict;
 

@@ -7,7 +7,7 @@ ghost use Rattle.ft_base.specs.Items.{call_of};
 ghost use Rattle.ft_base.specs.Job.{Job as PlainJob};
 ghost use Rattle.ft_hist.specs.Known.{holds};
 ghost use Rattle.ft_hist.specs.Past.{done as returned};
-ghost use Rattle.history_check.specs.KeptCalls.{IsOpenCall, IsVisitBy, called, is_inside, keeps_frame, with_first};
+ghost use Rattle.history_check.specs.TaskCalls.{IsOpenCall, IsVisitBy, called, is_inside, keeps_frame, with_first};
 ghost use Rattle.user_specs.specs.Plain.{spec_of};
 
 use crate::users::kind_of;

@@ -7,8 +7,8 @@ ghost use Rattle.ft_base.specs.Job.{Job as PlainJob};
 ghost use Rattle.ft_hist.specs.Past.{miss_due};
 ghost use Rattle.ft_hist.specs.Rules.{HasEnded, KeepsPlainRun};
 ghost use Rattle.history_check.specs.declared.task_past.TaskPast.{TaskPast};
-ghost use Rattle.history_check.specs.KeptCalls.{due_of};
-ghost use Rattle.history_check.specs.KeptPast.{AreStarting, IsAtEnd, IsFirstBroken, IsNext, IsPast, IsPastAt, IsTopOf};
+ghost use Rattle.history_check.specs.TaskCalls.{due_of};
+ghost use Rattle.history_check.specs.JudgePast.{AreStarting, IsAtEnd, IsFirstBroken, IsNext, IsPast, IsPastAt, IsTopOf};
 
 use crate::callbacks::Callbacks;
 use crate::desks::Desks;

@@ -6,7 +6,7 @@ ghost use Rattle.ft_base.specs.Items.{call_of};
 ghost use Rattle.ft_base.specs.Job.{Job as PlainJob};
 ghost use Rattle.ft_hist.specs.Plain.{after_enter, after_enter_ahead, after_item, after_leave, after_owed_enter, ahead, top_call};
 ghost use Rattle.ft_hist.specs.Rules.{HasEnded, acts_passed};
-ghost use Rattle.history_check.specs.KeptRuns.{IsStep, frame_of, opened, owed_of, phase_of, returned as returned_ahead, starting, top_if, top_of, with_acts};
+ghost use Rattle.history_check.specs.PlainRuns.{IsStep, frame_of, opened, owed_of, phase_of, returned as returned_ahead, starting, top_if, top_of, with_acts};
 ghost use Rattle.user_specs.specs.Plain.{spec_of};
 
 use crate::acts::Acts;
@@ -30,7 +30,7 @@ pub struct TaskRun<'a> {
 impl<'a> Model for TaskRun<'a> {
     ghost use Rattle.std.specs.Prelude.{◌+◌, ◌<◌, ◌^◌, length};
     ghost use Rattle.ft_hist.specs.Plain.{PlainTask};
-    ghost use Rattle.history_check.specs.KeptRuns.{task_of};
+    ghost use Rattle.history_check.specs.PlainRuns.{task_of};
 
     ghost Value = { PlainTask };
 

@@ -7,8 +7,8 @@ ghost use Rattle.ft_desk.specs.Lines.{lines_of};
 ghost use Rattle.ft_hist.specs.Past.{all_visits, begun as begun_in, done as done_in, gets_frame, visit as visit_in};
 ghost use Rattle.ft_hist.specs.Rules.{MayFollow, KeepsPlainRun};
 ghost use Rattle.history_check.specs.declared.task_past.TaskPast.{TaskPast};
-ghost use Rattle.history_check.specs.KeptCalls.{AreTasksOf, HasRoom, IsContextOf, IsDueBy, IsOfJob, IsTop, IsVisitBy, visit_of};
-ghost use Rattle.history_check.specs.KeptPast.{IsPast, IsPastAt, lines_after};
+ghost use Rattle.history_check.specs.TaskCalls.{AreTasksOf, HasRoom, IsContextOf, IsDueBy, IsOfJob, IsTop, IsVisitBy, visit_of};
+ghost use Rattle.history_check.specs.JudgePast.{IsPast, IsPastAt, lines_after};
 ghost use Rattle.user_specs.specs.Plain.{spec_of};
 
 use crate::open_call::{OpenCall, Visit};

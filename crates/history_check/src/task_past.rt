@@ -5,7 +5,7 @@ ghost use Rattle.ft_base.specs.declared.item.Item.{Item};
 ghost use Rattle.ft_base.specs.Job.{Job as PlainJob};
 ghost use Rattle.ft_hist.specs.Past.{done as returned, is_of};
 ghost use Rattle.ft_hist.specs.Plain.{plain};
-ghost use Rattle.history_check.specs.KeptCalls.{AreCallsOf, HasRoom, IsVisitBy, holding};
+ghost use Rattle.history_check.specs.TaskCalls.{AreCallsOf, HasRoom, IsVisitBy, holding};
 ghost use Rattle.user_specs.specs.Plain.{spec_of};
 
 use crate::open_call::{OpenCall, Visit};

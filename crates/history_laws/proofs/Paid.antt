@@ -30,7 +30,7 @@ use Rattle.ft_hist.specs.Past.{is_of, done, begun, entry_of, Visit, visit, all_v
 use Rattle.ft_hist.specs.Plain.{plain, PlainTask, Frame, Phase, Dispatch, InBack, Running, Leaving, InExit, Owed, ahead, below_top, in_phase, on_top, owed_by, top_call}
 use Rattle.ft_hist.specs.Rules.{IsLegalPast, MayVisit, PassesAll, MayExit}
 use Rattle.ft_hist.proofs.Laws.{same_call-refl}
-use Rattle.ft_hist.proofs.HeldLaws.{opens}
+use Rattle.ft_hist.proofs.FrameCounts.{opens}
 use Rattle.ft_hist.proofs.Numbers.{none-before}
 use Rattle.ft_hist.proofs.RunLaws.{calls_on, sound}
 use Rattle.ft_hist.proofs.Steps.{Step, step_begin, step_return, step_enter, step_act, step_back, step_back_end, step_refuse, step_miss, step_body, step_leave, step_act_leave, step_exit, step_exit_end, step_ret, acts_ahead, new_frame, past_act}

@@ -9,7 +9,7 @@ use Rattle.ft_hist.specs.Past.{done}
 use Rattle.ft_hist.specs.Plain.{plain, PlainTask, Frame}
 use Rattle.ft_hist.specs.Rules.{IsLegalPast}
 use Rattle.ft_hist.specs.Telling.{open_calls}
-use Rattle.ft_hist.proofs.HeldLaws.{opens}
+use Rattle.ft_hist.proofs.FrameCounts.{opens}
 use Rattle.ft_hist.proofs.Numbers.{some-run}
 use Rattle.ft_hist.proofs.RunLaws.{calls_on}
 use Rattle.ft_hist.proofs.Steps.{Step, step_enter, step_act, step_leave, step_ret, IsQuiet, run-holds}

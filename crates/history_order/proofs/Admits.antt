@@ -21,7 +21,7 @@ use Rattle.ft_hist.proofs.ItemParts.{KeepsOthers, may_follow, of_visit, of_body,
 use Rattle.ft_hist.proofs.Laws.{plain-other}
 use Rattle.ft_hist.proofs.Numbers.{some-run}
 use Rattle.ft_hist.proofs.OpenBacks.{opens-are}
-use Rattle.ft_hist.proofs.ToldExits.{each-of}
+use Rattle.ft_hist.proofs.ExitItems.{each-of}
 use Rattle.history_order.specs.Exchange.{with_places}
 use Rattle.history_order.proofs.Visits.{Falls, visits-fall, exits-of}
 use Rattle.history_order.proofs.Alike.{IsEntered, IsSeen, IsRead, Suits, On, moved, held-same}

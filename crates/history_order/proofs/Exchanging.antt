@@ -18,7 +18,7 @@ use Rattle.ft_hist.proofs.Numbers.{some-run}
 use Rattle.ft_hist.proofs.OpenBacks.{opened}
 use Rattle.ft_hist.proofs.OpenCallbacks.{of_user, by_task}
 use Rattle.ft_hist.proofs.Splitting.{legal-older, split-reverse}
-use Rattle.ft_hist.proofs.ToldExits.{each-of}
+use Rattle.ft_hist.proofs.ExitItems.{each-of}
 use Rattle.history_order.specs.Exchange.{StaysLegal, exchanged, moved_place, with_places}
 use Rattle.history_order.proofs.Visits.{visits-before}
 use Rattle.history_order.proofs.Alike.{IsSeen, IsRead, Suits, On, on-same, left-other, right-other, more}

@@ -10,7 +10,7 @@ use Rattle.ft_base.proofs.Small.{Each-weaker, Each-filter}
 use Rattle.ft_hist.specs.Past.{Visit, visit, all_visits, visits, exits}
 use Rattle.ft_hist.specs.Rules.{IsLegalPast}
 use Rattle.ft_hist.proofs.RunLaws.{same_call-eq}
-use Rattle.ft_hist.proofs.ToldExits.{each-of}
+use Rattle.ft_hist.proofs.ExitItems.{each-of}
 
 -- each visit is at an earlier place than those before it in the list
 abbrev pub Falls : List Visit → Type 0

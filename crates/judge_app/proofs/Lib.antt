@@ -3,7 +3,7 @@ pub mod OneCut
 pub mod Replies
 pub mod Ending
 pub mod LaneOrders
-pub mod ToldJobs
+pub mod LogJobs
 pub mod Printed
 pub mod OneReply
 pub mod ScriptCuts

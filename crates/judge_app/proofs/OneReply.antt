@@ -18,7 +18,7 @@ use Rattle.judge_app.specs.Lanes.{led_by}
 use Rattle.judge_app.specs.Reply.{IsReplyTo, of_log, of_missing, of_refusal, of_verdict, refusal_text, status_of, syntax_at, verdict_text}
 use Rattle.judge_app.proofs.OneCut.{one-cut, one-first}
 use Rattle.judge_app.proofs.Printed.{judged-so, log-short, same-verdict}
-use Rattle.judge_app.proofs.ToldJobs.{named-led}
+use Rattle.judge_app.proofs.LogJobs.{named-led}
 
 module _ (input : List ℕ) (size : length input < 2 ^ 64) where
   abbrev AreSame : Status → List ℕ → Status → List ℕ → Type 0

@@ -46,7 +46,7 @@ use Rattle.judge_app.specs.Reply.{IsReplyTo, of_log, of_missing, of_refusal, of_
 use Rattle.judge_app.proofs.LaneOrders.{order-stands, order-told}
 use Rattle.judge_app.proofs.OneCut.{one-cut, one-first}
 use Rattle.judge_app.proofs.Replies.{few-items}
-use Rattle.judge_app.proofs.ToldJobs.{led-alone, led-merge, led-merged}
+use Rattle.judge_app.proofs.LogJobs.{led-alone, led-merge, led-merged}
 
 -- no legal history is broken
 never-broken : (job : Job) (items : List Item) → IsLegal job items → (p : ℕ) (r : Rule) → IsVerdict job items (Broken p r) → ⊥

@@ -9,7 +9,7 @@ use Rattle.ft_io.specs.declared.status.Status.TheVariants.{Done}
 use Rattle.script_jobs.specs.Merges.{IsMergeOf}
 use Rattle.trace_print.specs.Texts.{text_of}
 use Rattle.ft_app.specs.Main.{HasRun, IsLogged}
-use Rattle.ft_app.proofs.KeptRings.{printed-without}
+use Rattle.ft_app.proofs.HistoryRings.{printed-without}
 use Rattle.judge_app.specs.Cut.{IsCut, is_feed, log_line}
 use Rattle.judge_app.specs.Judged.{HasLog}
 use Rattle.judge_app.specs.Reply.{IsReplyTo}

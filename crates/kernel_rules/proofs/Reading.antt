@@ -5,7 +5,7 @@ use Rattle.ft_base.specs.declared.item.Item.{Item}
 use Rattle.ft_base.specs.declared.item.Item.TheVariants.{Exit}
 use Rattle.ft_base.specs.Job.{Job}
 use Rattle.ft_hist.specs.Past.{Visit, visits}
-use Rattle.ft_hist.proofs.ToldExits.{each-of}
+use Rattle.ft_hist.proofs.ExitItems.{each-of}
 use Rattle.history_order.proofs.Visits.{visits-before}
 use Rattle.kernel_rules.specs.declared.line.ExitOrder.{ExitOrder}
 use Rattle.kernel_rules.specs.declared.line.Line.{Line}

@@ -24,7 +24,7 @@ use Rattle.ft_machine.specs.Fed.{control_fed, control_items}
 use Rattle.ft_machine.proofs.FedLaws.{control_after-append}
 use Rattle.live_table.specs.Recorded.{IsRecorded, lists}
 use Rattle.live_table.specs.Rule.{world_with}
-use Rattle.live_table.specs.Views.{ControlTold}
+use Rattle.live_table.specs.Views.{ControlFacts}
 use Rattle.live_table.proofs.Recording.{Tells, control-follows, items-on, placed-on, tells}
 use Rattle.live_table.proofs.Tables.{changed, changed-named, gave, gave-named}
 use Rattle.live_table.proofs.Values.{control_marks-snoc}
@@ -114,7 +114,7 @@ module _ (job : Job) (limited : IsLimited job) (words : List ℕ) (values : Acto
           subst (λ n. AreCounted n (control_items job (values ByControl))) (sym told) recorded.placed.below.0
 
       -- what the operation tells
-      pub control-told : ControlTold job (value op) (values ByControl)
+      pub control-told : ControlFacts job (value op) (values ByControl)
       control-told = record {
         rising = λ item e. rising item (sym next ∙ e);
         next' = control-there job (word-job job limited) after control-runs.kept control-runs.waits;

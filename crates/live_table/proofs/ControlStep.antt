@@ -19,7 +19,7 @@ use Rattle.ft_machine.proofs.Made.{IsOpThere, of-job}
 use Rattle.ft_machine.specs.Fed.{control_fed, control_items}
 use Rattle.ft_machine.proofs.FedLaws.{control_after-append}
 use Rattle.live_table.specs.declared.live.Going.TheVariants.{End, More}
-use Rattle.live_table.specs.Views.{View, ControlTold, ToldIn, control_view, took, values_of}
+use Rattle.live_table.specs.Views.{View, ControlFacts, FactsIn, control_view, took, values_of}
 use Rattle.live_table.specs.AtomicSteps.{AtomicStep, MakesOp}
 use Rattle.live_table.specs.Operations.{op_after, op_gives, op_word}
 use Rattle.live_table.specs.Rule.{LiveRule}
@@ -64,7 +64,7 @@ module _ (me : Me (Unit {0}) View) (x : Seated) (sits : ControlSits me x) where
 
   -- the seat after control took a value
   module _ (m : Me (Unit {0}) View) (v : ℕ) (knows : m ≡ (control_view me.0.job me.0.led me.0.split (values_of me.0.parts ++ v ∷ []), []))
-      (told : ControlTold me.0.led v (values_of me.0.parts)) where
+      (told : ControlFacts me.0.led v (values_of me.0.parts)) where
     pub sits-more : (y : Seated)
         → ((job : Job) → IsFor job x → IsFor job y)
         → ((job : Job) → IsFor job x → control_of y ≡ control_got job (control_of x) v)
@@ -129,10 +129,10 @@ module _ (me : Me (Unit {0}) View) (x : Seated) (sits : ControlSits me x) where
       knows-more : m ≡ (control_view me.0.job me.0.led me.0.split (values_of me.0.parts ++ v ∷ []), [])
       knows-more = takes.0.0 ∙ (λ i. (took (sits.view' i).0 (sym value i), (sits.view' i).1))
 
-      told-more : ControlTold me.0.led v (values_of me.0.parts)
+      told-more : ControlFacts me.0.led v (values_of me.0.parts)
       told-more =
-          subst (λ z. ControlTold me.0.led z (values_of me.0.parts)) (sym value)
-          (subst (λ (u : Me (Unit {0}) View). ToldIn u.0.led (op_gives code n) u.0.parts) sits.view' takes.0.1)
+          subst (λ z. ControlFacts me.0.led z (values_of me.0.parts)) (sym value)
+          (subst (λ (u : Me (Unit {0}) View). FactsIn u.0.led (op_gives code n) u.0.parts) sits.view' takes.0.1)
 
       -- the seat after the step
       pub control-sits : (y : Seated)

@@ -32,7 +32,7 @@ use Rattle.ft_machine.proofs.FedLaws.{cpu_after-append}
 use Rattle.live_table.specs.Recorded.{IsRecorded, lists}
 use Rattle.dealt_seats.specs.Views.{cpu}
 use Rattle.live_table.specs.Rule.{world_with}
-use Rattle.live_table.specs.Views.{CpuTold}
+use Rattle.live_table.specs.Views.{CpuFacts}
 use Rattle.live_table.proofs.Recording.{Tells, at-cpu, cpu-follows, items-on, placed-on, tells}
 use Rattle.live_table.proofs.Tables.{changed, changed-named, gave, gave-named}
 use Rattle.live_table.proofs.Values.{cpu_marks-snoc}
@@ -159,7 +159,7 @@ module _ (job : Job) (limited : IsLimited job) (words : List ℕ) (values : Acto
           omega (arith, lt, had)
 
       -- what the operation tells
-      pub cpu-told : CpuTold job c (value op) (values (cpu c))
+      pub cpu-told : CpuFacts job c (value op) (values (cpu c))
       cpu-told = record {
         fits = subst (λ v. CpuTakes job (s.cpus c) v) (sym value-is) (cpu-takes job (word-job job limited) s runs.kept c inside op next);
         room = λ some. has-room op next (subst (λ o. IsSome (item_in o)) next some);

@@ -22,7 +22,7 @@ use Rattle.ft_machine.proofs.Plans.{room-most}
 use Rattle.ft_machine.specs.Fed.{cpu_fed, cpu_items}
 use Rattle.ft_machine.proofs.FedLaws.{cpu_after-append}
 use Rattle.live_table.specs.declared.live.Going.TheVariants.{End, More}
-use Rattle.live_table.specs.Views.{View, CpuTold, ToldIn, cpu_view, took, values_of}
+use Rattle.live_table.specs.Views.{View, CpuFacts, FactsIn, cpu_view, took, values_of}
 use Rattle.live_table.specs.AtomicSteps.{AtomicStep, MakesOp}
 use Rattle.live_table.specs.Operations.{op_after, op_gives, op_word}
 use Rattle.live_table.specs.Rule.{LiveRule}
@@ -82,10 +82,10 @@ module _ (me : Me (Unit {0}) View) (c : ℕ) (x : CpuParts) (fresh : Bool) (sits
       knows : m ≡ (cpu_view me.0.job c (values_of me.0.parts ++ v ∷ []), [])
       knows = takes.0.0 ∙ (λ i. (took (sits.view' i).0 (sym value i), (sits.view' i).1))
 
-      told : CpuTold me.0.job c v (values_of me.0.parts)
+      told : CpuFacts me.0.job c v (values_of me.0.parts)
       told =
-          subst (λ z. CpuTold me.0.job c z (values_of me.0.parts)) (sym value)
-          (subst (λ (u : Me (Unit {0}) View). ToldIn u.0.led (op_gives code n) u.0.parts) sits.view' takes.0.1)
+          subst (λ z. CpuFacts me.0.job c z (values_of me.0.parts)) (sym value)
+          (subst (λ (u : Me (Unit {0}) View). FactsIn u.0.led (op_gives code n) u.0.parts) sits.view' takes.0.1)
 
       takes-it : CpuTakes me.0.job (cpu_of me.0.job x) v
       takes-it = subst (λ s. CpuTakes me.0.job s v) (sym sits.fed) told.fits

@@ -23,7 +23,7 @@ use Rattle.ft_machine.proofs.FedLaws.{control_after-append}
 use Rattle.live_table.specs.Recorded.{IsRecorded, lists}
 use Rattle.dealt_seats.specs.Views.{cpu}
 use Rattle.live_table.specs.Rule.{RunsOn, StandsFor, world_with}
-use Rattle.live_table.specs.Views.{ControlTold, CpuTold}
+use Rattle.live_table.specs.Views.{ControlFacts, CpuFacts}
 use Rattle.live_table.proofs.ControlRows.{control-recorded, control-row, control-runs, control-told}
 use Rattle.live_table.proofs.CpuRows.{cpu-recorded, cpu-row, cpu-runs, cpu-told}
 use Rattle.live_table.proofs.Lines.{cpu-items-same, cpu-lists-same, cpu-next-same, more-more, none-later}
@@ -96,7 +96,7 @@ module _ (led : Job) (limited : IsLimited led) (words : List ℕ) (values : Acto
     cpu-is-row = cpu-row led limited words values past count now.runs c inside op next
 
     -- what it tells
-    pub cpu-tells : CpuTold led c (value op) (values (cpu c))
+    pub cpu-tells : CpuFacts led c (value op) (values (cpu c))
     cpu-tells = cpu-told led limited words values past count now.runs c inside op next on.recorded
 
   -- ## an operation of control
@@ -153,7 +153,7 @@ module _ (led : Job) (limited : IsLimited led) (words : List ℕ) (values : Acto
     control-is-row = control-row led limited words values past count now.runs op next
 
     -- what it tells
-    pub control-tells : ControlTold led (value op) vs
+    pub control-tells : ControlFacts led (value op) vs
     control-tells = control-told led limited words values past count now.runs op next on.recorded
 
 -- ## lines that are led

@@ -18,7 +18,7 @@ use Rattle.control_core.specs.Seated.{IsFor, Seated, control_of}
 use Rattle.control_core.specs.Steps.{marks_in}
 use Rattle.control_core.proofs.Leading.{one-more}
 use Rattle.ft_machine.specs.Fed.{control_fed, control_items}
-use Rattle.live_table.specs.Views.{View, ControlTold, ToldIn, control_view, leading, took, values_of}
+use Rattle.live_table.specs.Views.{View, ControlFacts, FactsIn, control_view, leading, took, values_of}
 use Rattle.live_table.specs.AtomicSteps.{AtomicStep, MakesOp}
 use Rattle.live_table.specs.Operations.{op_after}
 use Rattle.live_table.specs.Rule.{LiveRule, led_at}
@@ -100,8 +100,8 @@ module _ (me : Me (Unit {0}) View) (x : Seated) (sits : ControlSits me x) (k : �
     knows : m ≡ (control_view me.0.job led' me.0.split (vs ++ n ∷ []), [])
     knows = takes.0.0 ∙ (λ i. (took (leading (Some k) (sits.view' i).0) n, (sits.view' i).1))
 
-    told : ControlTold led' n vs
-    told = subst (λ (u : Me (Unit {0}) View). ToldIn (leading (Some k) u.0).led n u.0.parts) sits.view' takes.0.1
+    told : ControlFacts led' n vs
+    told = subst (λ (u : Me (Unit {0}) View). FactsIn (leading (Some k) u.0).led n u.0.parts) sits.view' takes.0.1
 
     -- at the moment of the mark the rule held, so with this line control was as it is without it, but for the line to come
     abbrev rule : LiveRule me.0.job takes.1.table

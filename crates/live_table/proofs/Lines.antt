@@ -16,7 +16,7 @@ use Rattle.task_core.specs.TaskOps.{item_in}
 use Rattle.ft_machine.specs.Fed.{cpu_after, cpu_fed, cpu_items, cpu_marks}
 use Rattle.live_table.specs.Recorded.{cpu_lists}
 use Rattle.dealt_seats.specs.Views.{cpu}
-use Rattle.live_table.specs.Views.{CpuTold}
+use Rattle.live_table.specs.Views.{CpuFacts}
 
 -- ## a CPU reads no line
 
@@ -51,7 +51,7 @@ module _ (job : Job) (ctls : List Ctl) (plan : LinePlan) where
   cpu-next-same c vs = ap (cpu_next other) (cpu-fed-same c vs) ∙ same_next job ctls plan (cpu_fed job c vs)
 
   -- and that tells the same
-  pub cpu-told-same : (c v : ℕ) (vs : List ℕ) → CpuTold other c v vs → CpuTold job c v vs
+  pub cpu-told-same : (c v : ℕ) (vs : List ℕ) → CpuFacts other c v vs → CpuFacts job c v vs
   cpu-told-same c v vs told = record {
     fits = subst (λ (s : Cpu). CpuTakes job s v) (cpu-fed-same c vs) told.fits;
     room = λ some.

@@ -19,7 +19,7 @@ use Rattle.word_machine.specs.Cpu.{cpu_next}
 use Rattle.word_machine.specs.Limits.{IsLimited}
 use Rattle.word_machine.specs.Machine.{past_after, step}
 use Rattle.ft_machine.specs.Fed.{control_fed, cpu_fed}
-use Rattle.live_table.specs.Views.{View, ToldAt, control_view, cpu_view, led_on}
+use Rattle.live_table.specs.Views.{View, FactsAt, control_view, cpu_view, led_on}
 use Rattle.live_table.specs.AtomicSteps.{MakesOp}
 use Rattle.live_table.specs.Operations.{op_after, op_word}
 use Rattle.dealt_seats.specs.Views.{cpu, part, view}
@@ -72,7 +72,7 @@ module _ (job : Job) (line : Option ℕ) (id here : ℕ) (own : Job) (a : Actor)
           (with_lines job ctls' plan') (led_on job own line) values' (r.values a ++ gave t.words code ∷ []) taken others stay there;
     }
 
-    pub comes : ToldAt (led_on job own line) (gave t.words code) (r.values a) a → Comes (r.values a)
+    pub comes : FactsAt (led_on job own line) (gave t.words code) (r.values a) a → Comes (r.values a)
     unfolding kept
     comes told = (
       knows,

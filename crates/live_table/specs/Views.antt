@@ -85,31 +85,31 @@ dealt v = cpu_view v.job v.split []
 -- Of an operation that gave v, if the actor had marked these items, and of the operation after it.
 --   rising   the place of a mark is after those of the items
 --   next     the next operation is on a word of the job
-pub record IsTold (job : Job) (items : List Stamped) (op next : Option WordOp) (v : ℕ) : Type 0 where
+pub record OperationFacts (job : Job) (items : List Stamped) (op next : Option WordOp) (v : ℕ) : Type 0 where
   pub rising : (item : Item) → op ≡ Some (Mark item) → AreCounted (low v) items
   pub next' : IsOnWord job next
 
 -- of control's
-abbrev pub ControlTold : Job → ℕ → List ℕ → Type 0
-ControlTold led v values =
-    IsTold led (control_items led values) (control_next led (control_fed led values)) (control_next led (control_fed led (values ++ v ∷ []))) v
+abbrev pub ControlFacts : Job → ℕ → List ℕ → Type 0
+ControlFacts led v values =
+    OperationFacts led (control_items led values) (control_next led (control_fed led values)) (control_next led (control_fed led (values ++ v ∷ []))) v
 
 -- of CPU c's: besides, the value fits, and there is room for what is marked
-pub record CpuTold (job : Job) (c v : ℕ) (values : List ℕ) : Type 0 where
+pub record CpuFacts (job : Job) (c v : ℕ) (values : List ℕ) : Type 0 where
   pub fits : CpuTakes job (cpu_fed job c values) v
   pub room : IsSome (item_in (cpu_next job (cpu_fed job c values))) → length (cpu_items job c values) < room_on job c
-  pub told : IsTold job (cpu_items job c values) (cpu_next job (cpu_fed job c values)) (cpu_next job (cpu_fed job c (values ++ v ∷ []))) v
+  pub told : OperationFacts job (cpu_items job c values) (cpu_next job (cpu_fed job c values)) (cpu_next job (cpu_fed job c (values ++ v ∷ []))) v
 
 -- of that of an actor that goes by this job
-abbrev pub ToldAt : Job → ℕ → List ℕ → Actor → Type 0
-ToldAt job v values ByControl = ControlTold job v values
-ToldAt job v values (ByCpu c) = CpuTold job c.0 v values
+abbrev pub FactsAt : Job → ℕ → List ℕ → Actor → Type 0
+FactsAt job v values ByControl = ControlFacts job v values
+FactsAt job v values (ByCpu c) = CpuFacts job c.0 v values
 
 -- of the seat's own actor's
-abbrev pub ToldIn : Job → ℕ → List Part → Type 0
-ToldIn job v [] = ⊥
-ToldIn job v (x ∷ xs) = ToldAt job v x.known x.actor
+abbrev pub FactsIn : Job → ℕ → List Part → Type 0
+FactsIn job v [] = ⊥
+FactsIn job v (x ∷ xs) = FactsAt job v x.known x.actor
 
 -- the seat's own actor takes a value, and what is told of it
 abbrev pub TakesOne : {S : Type 0} → Me S View → ℕ → Me S View → Type 0
-TakesOne m v n = (n ≡ (took m.0 v, m.1)) × ToldIn m.0.led v m.0.parts
+TakesOne m v n = (n ≡ (took m.0 v, m.1)) × FactsIn m.0.led v m.0.parts

@@ -23,7 +23,7 @@ use Rattle.history_laws.proofs.Bounded.{items-most}
 use Rattle.word_machine.specs.Limits.{IsLimited}
 use Rattle.ring_rules.specs.Plan.{TracePlan, plan_of}
 use Rattle.ring_rules.specs.Hits.{call_on, is_of_cpu, stamp}
-use Rattle.ring_rules.specs.Kept.{IsOf}
+use Rattle.ring_rules.specs.RingInvariant.{IsOf}
 use Rattle.ring_rules.specs.Legal.{items_from, items_on}
 use Rattle.ring_rules.proofs.OnCpus.{items-more, on-apart}
 use Rattle.ring_table.specs.Seats.{HaveItems, SeatHas, SeatPlace}

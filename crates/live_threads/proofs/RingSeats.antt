@@ -13,7 +13,7 @@ use Rattle.ft_hist.specs.Rules.{IsLegal}
 use Rattle.word_machine.specs.Laws.{room_on}
 use Rattle.word_machine.specs.Limits.{IsLimited}
 use Rattle.ring_rules.specs.Fold.{Rings}
-use Rattle.ring_rules.specs.Kept.{IsOf}
+use Rattle.ring_rules.specs.RingInvariant.{IsOf}
 use Rattle.ring_rules.specs.Legal.{RingsLegal}
 use Rattle.ring_rules.specs.Plan.{TracePlan, plan_of}
 use Rattle.ring_table.specs.Seats.{Board as RingBoard, HaveItems, SeatHas, SeatPlace, AreSeats as AreRings, AreNew as AreNewRings}

@@ -21,7 +21,7 @@ use Rattle.ft_hist.proofs.Numbers.{enters-fresh, some-run}
 use Rattle.ft_hist.proofs.RunLaws.{calls_on, sound}
 use Rattle.ft_hist.proofs.Steps.{own-step, run-holds}
 use Rattle.ft_hist.proofs.Splitting.{splits}
-use Rattle.ft_hist.proofs.Told.{legal-to}
+use Rattle.ft_hist.proofs.ItemOrders.{legal-to}
 use Rattle.ft_hist.proofs.WindowLaws.{done-more, entry_of-more, legal-counts}
 use Rattle.func_table.specs.Modules.{module_of}
 use Rattle.module_coverage.specs.Covered.{AreCovered, commands_until, to_command}

@@ -7,7 +7,7 @@ pub mod OpenedLaws
 pub mod MadeLaws
 pub mod NameLaws
 pub mod ListLaws
-pub mod KeptLaws
+pub mod BetweenLaws
 pub mod ClashLaws
 pub mod OpeningLaws
 pub mod NumberSamples

@@ -12,19 +12,19 @@ use Rattle.word_map.specs.declared.shape.Shape.{Shape}
 use Rattle.ft_desk.specs.declared.command.Command.{Command}
 use Rattle.ft_desk.specs.Commands.{command_of, IsInShape}
 use Rattle.ft_desk.specs.Declarations.{Declared, bare, declared_by, job_of}
-use Rattle.ft_desk.specs.Seen.{Seen, opened}
+use Rattle.ft_desk.specs.DeskView.{DeskView, opened}
 use Rattle.module_table.specs.Lines.{desk_after, opening_of, opened_with, at_first, owners_of, loaded_at_first, first_hidden, mask, masks_from}
 use Rattle.func_table.specs.Modules.{modules_in, number_among}
 use Rattle.module_table.specs.Reached.{IsReached}
 use Rattle.module_table.proofs.HiddenLaws.{length-hidden}
 use Rattle.module_table.proofs.ListLaws.{length-loaded}
 use Rattle.module_table.proofs.OpenedLaws.{reached-first}
-use Rattle.module_table.proofs.KeptLaws.{made, made-same, modifiers-declared}
+use Rattle.module_table.proofs.BetweenLaws.{made, made-same, modifiers-declared}
 use Rattle.module_table.specs.Made.{opening_commands}
 use Rattle.module_table.proofs.MadeLaws.{opening-is, opening-declared, opening-few}
 
 module _ (specs : List Spec) (shape : Shape) (users : length specs ≡ shape.users) (first : Option Marks) (cs : List Command)
-    (are : cs ≡ opening_commands shape.users shape.funcs first) (s : Seen) (fresh : s ≡ opened (declared_by specs shape)) where
+    (are : cs ≡ opening_commands shape.users shape.funcs first) (s : DeskView) (fresh : s ≡ opened (declared_by specs shape)) where
   abbrev d : Declared
   d = declared_by specs shape
 
@@ -35,10 +35,10 @@ module _ (specs : List Spec) (shape : Shape) (users : length specs ≡ shape.use
   here = are ∙ ap (λ n. opening_commands n shape.funcs first) (sym count)
 
   pub opening-in-shape : Each (IsInShape s.declared) cs
-  opening-in-shape = subst (λ (x : Seen). Each (IsInShape x.declared) cs) (sym fresh) (subst (Each (IsInShape d)) (sym here) (opening-declared d first))
+  opening-in-shape = subst (λ (x : DeskView). Each (IsInShape x.declared) cs) (sym fresh) (subst (Each (IsInShape d)) (sym here) (opening-declared d first))
 
   pub opening-count : s.commands ≡ 0
-  opening-count = ap (λ (x : Seen). x.commands) fresh
+  opening-count = ap (λ (x : DeskView). x.commands) fresh
 
   pub opening-size : length cs ≡ length (opening_of (declared_by specs shape) first)
   opening-size = ap length here ∙ sym (length-map (opening_commands (length d.specs) d.funcs first) (command_of d.tasks)) ∙ ap length (opening-is d d.tasks first)
@@ -46,9 +46,9 @@ module _ (specs : List Spec) (shape : Shape) (users : length specs ≡ shape.use
   pub opening-small : length cs ≤ shape.users
   opening-small = let a = ap length are in let b = opening-few shape.users shape.funcs first in omega arith
 
-  pub opening-state : (new : Seen) → new.state ≡ desk_after (job_of s.declared) s.state s.commands (map (command_of s.declared.tasks) cs)
+  pub opening-state : (new : DeskView) → new.state ≡ desk_after (job_of s.declared) s.state s.commands (map (command_of s.declared.tasks) cs)
       → new.state ≡ desk_after (job_of (declared_by specs shape)) (opening (job_of (declared_by specs shape))) 0 (opening_of (declared_by specs shape) first)
-  opening-state new e = e ∙ ap (λ (x : Seen). desk_after (job_of x.declared) x.state x.commands (map (command_of x.declared.tasks) cs)) fresh
+  opening-state new e = e ∙ ap (λ (x : DeskView). desk_after (job_of x.declared) x.state x.commands (map (command_of x.declared.tasks) cs)) fresh
       ∙ ap (λ (xs : List Command). desk_after (job_of d) (opening (job_of d)) 0 (map (command_of d.tasks) xs)) here
       ∙ ap (desk_after (job_of d) (opening (job_of d)) 0) (opening-is d d.tasks first)
 
@@ -71,7 +71,7 @@ first-sized owners loaded (m ∷ ms) n e = length-hidden owners loaded ∙ e
 
 -- what is known at first, as it is made
 module _ (specs : List Spec) (shape : Shape) (users : length specs ≡ shape.users) (functions : List Func) (same : length functions ≡ shape.funcs) (absent : List ℕ)
-    (names : List (List ℕ)) (count : ℕ) (owners : List (Option ℕ)) (loaded : List Bool) (first : Option Marks) (own : List Marks) (s : Seen)
+    (names : List (List ℕ)) (count : ℕ) (owners : List (Option ℕ)) (loaded : List Bool) (first : Option Marks) (own : List Marks) (s : DeskView)
     (named : names ≡ modules_in functions) (counted : count ≡ length names) (owned : owners ≡ map (λ f. number_among names f.owner) functions) (loads : loaded ≡ loaded_at_first count absent)
     (hides : first ≡ first_hidden owners loaded absent) (owns : own ≡ replicate shape.users (empty shape.funcs)) (declared : s.declared ≡ declared_by specs shape)
     (state : s.state ≡ desk_after (job_of (declared_by specs shape)) (opening (job_of (declared_by specs shape))) 0 (opening_of (declared_by specs shape) first))

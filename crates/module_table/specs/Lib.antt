@@ -2,4 +2,4 @@ pub mod Names
 pub mod Lines
 pub mod Reached
 pub mod Made
-pub mod Kept
+pub mod ModulesInvariant

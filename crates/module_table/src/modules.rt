@@ -51,13 +51,13 @@ pub struct Modules {
 
 impl Model for Modules {
     ghost use Rattle.module_table.specs.Lines.{Between};
-    ghost use Rattle.module_table.specs.Kept.{between, IsKept};
+    ghost use Rattle.module_table.specs.ModulesInvariant.{between, ModulesInvariant};
 
     ghost Value = { Between };
 
     ghost view = { between };
 
-    ghost invariant = { IsKept };
+    ghost invariant = { ModulesInvariant };
 }
 
 impl Modules {

@@ -1,5 +1,5 @@
 pub mod Names
 pub mod Links
 pub mod Walks
-pub mod Kept
+pub mod LinkUsers
 pub mod Lists

@@ -36,7 +36,7 @@ pub struct Linker {
 
 impl Model for Linker {
     ghost use Rattle.ops_list.specs.Links.{Linked};
-    ghost use Rattle.ops_list.specs.Kept.{IsLinkIn};
+    ghost use Rattle.ops_list.specs.LinkUsers.{IsLinkIn};
 
     ghost Value = { Linked };
 

@@ -1,2 +1,2 @@
+pub mod ContextMarks
 pub mod Guards
-pub mod Kept

@@ -3,7 +3,7 @@
 ghost use Rattle.std.specs.Prelude.{◌≡◌};
 ghost use Rattle.ft_base.specs.Same.{context};
 ghost use Rattle.recursion_guard.specs.Guards.{unmarked, mark_of, with_mark};
-ghost use Rattle.recursion_guard.specs.Kept.{marked};
+ghost use Rattle.recursion_guard.specs.ContextMarks.{marked};
 
 use ft_base::Ctx;
 

@@ -21,7 +21,7 @@ pub struct Guards {
 
 impl Model for Guards {
     ghost use Rattle.recursion_guard.specs.Guards.{GuardState};
-    ghost use Rattle.recursion_guard.specs.Kept.{marked};
+    ghost use Rattle.recursion_guard.specs.ContextMarks.{marked};
 
     ghost Value = { GuardState };
 

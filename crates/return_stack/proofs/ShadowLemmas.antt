@@ -10,7 +10,7 @@ use Rattle.return_stack.specs.declared.shadow.FrameUser.{FrameUser}
 use Rattle.return_stack.specs.declared.shadow.ShadowStack.TheInside.{Inside}
 use Rattle.return_stack.specs.Shadow.{Shadow, users_on, with_user_on}
 use Rattle.return_stack.specs.Frames.{frames_of, AreInFrames}
-use Rattle.return_stack.specs.KeptShadow.{shadow_of}
+use Rattle.return_stack.specs.ShadowInvariant.{shadow_of}
 use Rattle.return_stack.proofs.FrameLemmas.{length-frames_of, frames_of-append, AreInFrames-append, AreInFrames-push}
 
 -- there are as many frames as are kept

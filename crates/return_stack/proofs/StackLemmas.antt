@@ -4,16 +4,16 @@ use Rattle.std.proofs.lemmas.List.{length-reverse, reverse-append, get_or-revers
 use Rattle.return_stack.specs.declared.stacks.Address.{Address}
 use Rattle.return_stack.specs.declared.stacks.Stacks.TheInside.{Inside}
 use Rattle.return_stack.specs.Calls.{CallStack, address_of, up_to}
-use Rattle.return_stack.specs.Addresses.{AreTied}
-use Rattle.return_stack.specs.KeptCalls.{stack_of}
+use Rattle.return_stack.specs.Addresses.{HooksHaveFrames}
+use Rattle.return_stack.specs.CallStackInvariant.{stack_of}
 use Rattle.return_stack.proofs.AddressLemmas.{length-open_calls, address_of-drop}
 
 -- the addresses fit the shadow stack
-abbrev pub IsTied : Inside → Type 0
-IsTied s = AreTied s.running (reverse s.addresses.items) s.shadow.frames
+abbrev pub HasHookFrames : Inside → Type 0
+HasHookFrames s = HooksHaveFrames s.running (reverse s.addresses.items) s.shadow.frames
 
 -- there are as many open calls as addresses
-pub length-calls : (s : Inside) (v : CallStack) → stack_of s ≡ v → IsTied s → length v.calls ≡ length s.addresses.items
+pub length-calls : (s : Inside) (v : CallStack) → stack_of s ≡ v → HasHookFrames s → length v.calls ≡ length s.addresses.items
 length-calls s v e t =
     ap (λ (w : CallStack). length w.calls) (sym e)
     ∙ (length-open_calls s.running (reverse s.addresses.items) s.shadow.frames t ∙ length-reverse s.addresses.items)
@@ -23,7 +23,7 @@ pub call_limit_is : (s : Inside) (v : CallStack) → stack_of s ≡ v → v.call
 call_limit_is s v e = ap (λ (w : CallStack). w.call_limit) (sym e)
 
 -- the address at a place is that of the call there
-pub address_of-up_to : (s : Inside) (v : CallStack) (i : ℕ) (d : Address) → stack_of s ≡ v → IsTied s → i < length s.addresses.items
+pub address_of-up_to : (s : Inside) (v : CallStack) (i : ℕ) (d : Address) → stack_of s ≡ v → HasHookFrames s → i < length s.addresses.items
     → address_of (up_to v.calls i) ≡ get_or s.addresses.items i d
 address_of-up_to s v i d e t h =
     let n = length-calls s v e t in

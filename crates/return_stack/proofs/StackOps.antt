@@ -12,15 +12,15 @@ use Rattle.return_stack.specs.declared.stacks.Address.TheVariants.{Hook, To}
 use Rattle.return_stack.specs.declared.stacks.Stacks.TheInside.{Inside}
 use Rattle.return_stack.specs.Shadow.{Shadow, ShadowFrame, users_on, to_on, with_frame, with_user_on}
 use Rattle.return_stack.specs.Calls.{StackedCall, CallStack, caller_of, top_users, has_frame, address_of, frames_in, is_full, with_hook, with_user, without_empty}
-use Rattle.return_stack.specs.Addresses.{open_calls, AreTied}
-use Rattle.return_stack.specs.KeptCalls.{stack_of}
-use Rattle.return_stack.proofs.AddressLemmas.{frames_in-open_calls, true_address, caller_of-open_calls, has_frame-unhooked, has_frame-inv, open_calls-hook, AreTied-hook, open_calls-frames_with_user, AreTied-frames_with_user, open_calls-drop, AreTied-drop, without_empty-unhooked, without_empty-used}
-use Rattle.return_stack.proofs.StackLemmas.{IsTied, length-calls, address_of-up_to, reverse-last, reverse-set_last}
+use Rattle.return_stack.specs.Addresses.{open_calls, HooksHaveFrames}
+use Rattle.return_stack.specs.CallStackInvariant.{stack_of}
+use Rattle.return_stack.proofs.AddressLemmas.{frames_in-open_calls, true_address, caller_of-open_calls, has_frame-unhooked, has_frame-inv, open_calls-hook, HooksHaveFrames-hook, open_calls-frames_with_user, HooksHaveFrames-frames_with_user, open_calls-drop, HooksHaveFrames-drop, without_empty-unhooked, without_empty-used}
+use Rattle.return_stack.proofs.StackLemmas.{HasHookFrames, length-calls, address_of-up_to, reverse-last, reverse-set_last}
 
 -- one more address, at a call
-pub tied_by_push : (xs ys : List Address) (running : Option CallNo) (call : CallNo) (fs : List ShadowFrame) → ys ≡ xs ++ To running ∷ []
-    → AreTied running (reverse xs) fs → AreTied (Some call) (reverse ys) fs
-tied_by_push xs ys running call fs e t = rw (e, reverse-append xs (To running ∷ [])) (refl, t)
+pub hooks_by_push : (xs ys : List Address) (running : Option CallNo) (call : CallNo) (fs : List ShadowFrame) → ys ≡ xs ++ To running ∷ []
+    → HooksHaveFrames running (reverse xs) fs → HooksHaveFrames (Some call) (reverse ys) fs
+hooks_by_push xs ys running call fs e t = rw (e, reverse-append xs (To running ∷ [])) (refl, t)
 
 -- the latest call has a frame, the latest one
 pub record OnFrame (s : Inside) (v : CallStack) : Type 0 where
@@ -29,7 +29,7 @@ pub record OnFrame (s : Inside) (v : CallStack) : Type 0 where
   pub users : top_users v.calls ≡ Some (users_on s.shadow.frames)
 
 -- the latest call has a frame
-pub on_frame : (s : Inside) (v : CallStack) → stack_of s ≡ v → IsTied s → has_frame v.calls ≡ true → OnFrame s v
+pub on_frame : (s : Inside) (v : CallStack) → stack_of s ≡ v → HasHookFrames s → has_frame v.calls ≡ true → OnFrame s v
 on_frame s v e t h =
     let has : has_frame (open_calls s.running (reverse s.addresses.items) s.shadow.frames) ≡ true = ap (λ (w : CallStack). has_frame w.calls) e ∙ h in
     let on = has_frame-inv s.running (reverse s.addresses.items) s.shadow.frames t has in
@@ -45,24 +45,24 @@ said_of : (users : Option (List FrameUser)) (us : List FrameUser) (P : List Fram
 said_of users us P e h = let Q : Option (List FrameUser) → Type 0 = λ o. IsSomeAnd o P in subst Q e h
 
 -- the latest call has a frame with room
-pub on_frame_with_room : (s : Inside) (v : CallStack) → stack_of s ≡ v → IsTied s
+pub on_frame_with_room : (s : Inside) (v : CallStack) → stack_of s ≡ v → HasHookFrames s
     → IsSomeAnd (top_users v.calls) (λ users. length users < USERS) → OnFrame s v × (length (users_on s.shadow.frames) < USERS)
 on_frame_with_room s v e t h =
     let on = on_frame s v e t (has_frame_with (top_users v.calls) _ h) in
     (on, said_of (top_users v.calls) (users_on s.shadow.frames) (λ users. length users < USERS) on.users h)
 
 -- the stacks with one more user of the latest frame
-pub stack_with_user : (s : Inside) (v : CallStack) (shadow : Shadow) (u : FrameUser) → stack_of s ≡ v → IsTied s → OnFrame s v
+pub stack_with_user : (s : Inside) (v : CallStack) (shadow : Shadow) (u : FrameUser) → stack_of s ≡ v → HasHookFrames s → OnFrame s v
     → shadow ≡ with_user_on s.shadow u → stack_of (record s { shadow = shadow }) ≡ record v { calls = with_user v.calls u }
 stack_with_user s v shadow u e t on h =
     rw (← e) (rw (h, open_calls-frames_with_user s.running (reverse s.addresses.items) s.shadow.frames u t on.has) refl)
 
 -- and the addresses still fit
-pub tied_with_user : (s : Inside) (shadow : Shadow) (u : FrameUser) → IsTied s → shadow ≡ with_user_on s.shadow u → IsTied (record s { shadow = shadow })
-tied_with_user s shadow u t h = rw h (AreTied-frames_with_user s.running (reverse s.addresses.items) s.shadow.frames u t)
+pub hooks_with_user : (s : Inside) (shadow : Shadow) (u : FrameUser) → HasHookFrames s → shadow ≡ with_user_on s.shadow u → HasHookFrames (record s { shadow = shadow })
+hooks_with_user s shadow u t h = rw h (HooksHaveFrames-frames_with_user s.running (reverse s.addresses.items) s.shadow.frames u t)
 
 -- as many calls have a frame as there are frames
-pub frames_in-calls : (s : Inside) (v : CallStack) → stack_of s ≡ v → IsTied s → frames_in v.calls ≡ length s.shadow.frames
+pub frames_in-calls : (s : Inside) (v : CallStack) → stack_of s ≡ v → HasHookFrames s → frames_in v.calls ≡ length s.shadow.frames
 frames_in-calls s v e t =
     ap (λ (w : CallStack). frames_in w.calls) (sym e) ∙ frames_in-open_calls s.running (reverse s.addresses.items) s.shadow.frames t
 
@@ -76,24 +76,24 @@ frames_in-below (c ∷ below) b n e h = ap (λ (m : ℕ). m + frames_in below) (
     by_test false = omega arith
 
 -- the latest call returns to its true address
-pub caller_is : (s : Inside) (v : CallStack) (front : List Address) (x : Address) → stack_of s ≡ v → IsTied s → s.addresses.items ≡ front ++ x ∷ []
+pub caller_is : (s : Inside) (v : CallStack) (front : List Address) (x : Address) → stack_of s ≡ v → HasHookFrames s → s.addresses.items ≡ front ++ x ∷ []
     → caller_of v.calls ≡ true_address x s.shadow.frames
 caller_is s v front x e t h =
     let r : reverse s.addresses.items ≡ x ∷ reverse front = ap (λ (xs : List Address). reverse xs) h ∙ reverse-append front (x ∷ []) in
-    let u : AreTied s.running (x ∷ reverse front) s.shadow.frames = rw r at t in
+    let u : HooksHaveFrames s.running (x ∷ reverse front) s.shadow.frames = rw r at t in
     ap (λ (w : CallStack). caller_of w.calls) (sym e)
     ∙ (ap (λ (xs : List Address). caller_of (open_calls s.running xs s.shadow.frames)) r
     ∙ caller_of-open_calls s.running x (reverse front) s.shadow.frames u)
 
 -- the address of the latest call
-pub address_of-calls : (s : Inside) (v : CallStack) (n : ℕ) (d : Address) → stack_of s ≡ v → IsTied s → suc n ≡ length s.addresses.items
+pub address_of-calls : (s : Inside) (v : CallStack) (n : ℕ) (d : Address) → stack_of s ≡ v → HasHookFrames s → suc n ≡ length s.addresses.items
     → address_of v.calls ≡ get_or s.addresses.items n d
 address_of-calls s v n d e t h =
     let m : length v.calls - suc n ≡ 0 = omega (arith, length-calls s v e t) in
     ap (λ (k : ℕ). address_of (drop k v.calls)) (sym m) ∙ address_of-up_to s v n d e t (omega arith)
 
 -- the place of the latest address
-pub place_of_top : (s : Inside) (v : CallStack) (m : ℕ) → stack_of s ≡ v → IsTied s → m ≡ length s.addresses.items → 0 < length v.calls
+pub place_of_top : (s : Inside) (v : CallStack) (m : ℕ) → stack_of s ≡ v → HasHookFrames s → m ≡ length s.addresses.items → 0 < length v.calls
     → suc (m - 1) ≡ length s.addresses.items
 place_of_top s v m e t h some = omega (arith, length-calls s v e t)
 
@@ -104,7 +104,7 @@ pub record IsUnhooked (s : Inside) (v : CallStack) (n : ℕ) (to : Option CallNo
   pub found : address_of v.calls ≡ To to
 
 -- an address that was read there
-pub unhooked_at : (s : Inside) (v : CallStack) (m : ℕ) (to : Option CallNo) (x : Address) → stack_of s ≡ v → IsTied s → m ≡ length s.addresses.items
+pub unhooked_at : (s : Inside) (v : CallStack) (m : ℕ) (to : Option CallNo) (x : Address) → stack_of s ≡ v → HasHookFrames s → m ≡ length s.addresses.items
     → 0 < length v.calls → x ≡ get_or s.addresses.items (m - 1) x → x ≡ To to → IsUnhooked s v (m - 1) to
 unhooked_at s v m to x e t h some read is =
     let top = place_of_top s v m e t h some in
@@ -112,7 +112,7 @@ unhooked_at s v m to x e t h some read is =
     record { top = top; address = address; found = address_of-calls s v (m - 1) (To to) e t top ∙ address }
 
 -- with its own address, a call is refused a frame if all are in use
-pub is_full-unhooked : (s : Inside) (v : CallStack) (n : ℕ) (to : Option CallNo) → stack_of s ≡ v → IsTied s → IsUnhooked s v n to
+pub is_full-unhooked : (s : Inside) (v : CallStack) (n : ℕ) (to : Option CallNo) → stack_of s ≡ v → HasHookFrames s → IsUnhooked s v n to
     → is_full v ≡ (length s.shadow.frames == s.shadow.limit)
 is_full-unhooked s v n to e t u =
     let no_frame = has_frame-unhooked v.calls to u.found in
@@ -125,23 +125,23 @@ own_on_top s v n to u =
     reverse-last s.addresses.items n (To to) u.top ∙ ap (λ (y : Address). y ∷ reverse (take n s.addresses.items)) u.address
 
 -- the stacks with the latest call hooked
-pub stack_hooked : (s : Inside) (v : CallStack) (shadow : Shadow) (n : ℕ) (to : Option CallNo) → stack_of s ≡ v → IsTied s → IsUnhooked s v n to
+pub stack_hooked : (s : Inside) (v : CallStack) (shadow : Shadow) (n : ℕ) (to : Option CallNo) → stack_of s ≡ v → HasHookFrames s → IsUnhooked s v n to
     → shadow ≡ with_frame s.shadow to
     → stack_of (record s { addresses = with_item s.addresses n Hook; shadow = shadow }) ≡ record v { calls = with_hook v.calls }
 stack_hooked s v shadow n to e t u h =
     let r = own_on_top s v n to u in
-    let below : AreTied s.running (To to ∷ reverse (take n s.addresses.items)) s.shadow.frames = rw r at t in
+    let below : HooksHaveFrames s.running (To to ∷ reverse (take n s.addresses.items)) s.shadow.frames = rw r at t in
     let q = reverse-set_last s.addresses.items n Hook u.top in
     rw (← e) (rw (q, r, h, open_calls-hook s.running to (reverse (take n s.addresses.items)) s.shadow.frames below) refl)
 
 -- and the addresses still fit
-pub tied_hooked : (s : Inside) (v : CallStack) (shadow : Shadow) (n : ℕ) (to : Option CallNo) → IsTied s → IsUnhooked s v n to
-    → shadow ≡ with_frame s.shadow to → IsTied (record s { addresses = with_item s.addresses n Hook; shadow = shadow })
-tied_hooked s v shadow n to t u h =
+pub hooks_hooked : (s : Inside) (v : CallStack) (shadow : Shadow) (n : ℕ) (to : Option CallNo) → HasHookFrames s → IsUnhooked s v n to
+    → shadow ≡ with_frame s.shadow to → HasHookFrames (record s { addresses = with_item s.addresses n Hook; shadow = shadow })
+hooks_hooked s v shadow n to t u h =
     let r = own_on_top s v n to u in
-    let below : AreTied s.running (To to ∷ reverse (take n s.addresses.items)) s.shadow.frames = rw r at t in
+    let below : HooksHaveFrames s.running (To to ∷ reverse (take n s.addresses.items)) s.shadow.frames = rw r at t in
     let q = reverse-set_last s.addresses.items n Hook u.top in
-    rw (q, h) (AreTied-hook s.running to (reverse (take n s.addresses.items)) s.shadow.frames below)
+    rw (q, h) (HooksHaveFrames-hook s.running to (reverse (take n s.addresses.items)) s.shadow.frames below)
 
 -- the latest call has a frame without users, and its address is at the place n
 pub record IsUnused (s : Inside) (v : CallStack) (n : ℕ) : Type 0 where
@@ -150,39 +150,39 @@ pub record IsUnused (s : Inside) (v : CallStack) (n : ℕ) : Type 0 where
   pub unused : (length (users_on s.shadow.frames) == 0) ≡ true
 
 -- the addresses, the latest first, with the hook on top
-hook_on_top : (s : Inside) (v : CallStack) (n : ℕ) → stack_of s ≡ v → IsTied s → IsUnused s v n → reverse s.addresses.items ≡ Hook ∷ reverse (take n s.addresses.items)
+hook_on_top : (s : Inside) (v : CallStack) (n : ℕ) → stack_of s ≡ v → HasHookFrames s → IsUnused s v n → reverse s.addresses.items ≡ Hook ∷ reverse (take n s.addresses.items)
 hook_on_top s v n e t u =
     let x : get_or s.addresses.items n Hook ≡ Hook =
     sym (address_of-calls s v n Hook e t u.top) ∙ ap (λ (b : Bool). if b then Hook else To (caller_of v.calls)) u.has in
     reverse-last s.addresses.items n Hook u.top ∙ ap (λ (y : Address). y ∷ reverse (take n s.addresses.items)) x
 
 -- the stacks with the latest call's frame taken away
-pub stack_dropped : (s : Inside) (v : CallStack) (shadow : Shadow) (n : ℕ) (to : Option CallNo) → stack_of s ≡ v → IsTied s → IsUnused s v n
+pub stack_dropped : (s : Inside) (v : CallStack) (shadow : Shadow) (n : ℕ) (to : Option CallNo) → stack_of s ≡ v → HasHookFrames s → IsUnused s v n
     → to ≡ to_on s.shadow.frames → shadow.frames ≡ drop 1 s.shadow.frames → shadow.limit ≡ s.shadow.limit
     → stack_of (record s { addresses = with_item s.addresses n (To to); shadow = shadow }) ≡ record v { calls = without_empty v.calls }
 stack_dropped s v shadow n to e t u address frames limit =
     let r = hook_on_top s v n e t u in
-    let below : AreTied s.running (Hook ∷ reverse (take n s.addresses.items)) s.shadow.frames = rw r at t in
+    let below : HooksHaveFrames s.running (Hook ∷ reverse (take n s.addresses.items)) s.shadow.frames = rw r at t in
     let q = reverse-set_last s.addresses.items n (To to) u.top in
     rw (← e) (rw (q, r, frames, limit, address, open_calls-drop s.running (reverse (take n s.addresses.items)) s.shadow.frames below u.unused) refl)
 
 -- and the addresses still fit
-pub tied_dropped : (s : Inside) (v : CallStack) (shadow : Shadow) (n : ℕ) (to : Option CallNo) → stack_of s ≡ v → IsTied s → IsUnused s v n
+pub hooks_dropped : (s : Inside) (v : CallStack) (shadow : Shadow) (n : ℕ) (to : Option CallNo) → stack_of s ≡ v → HasHookFrames s → IsUnused s v n
     → to ≡ to_on s.shadow.frames → shadow.frames ≡ drop 1 s.shadow.frames
-    → IsTied (record s { addresses = with_item s.addresses n (To to); shadow = shadow })
-tied_dropped s v shadow n to e t u address frames =
+    → HasHookFrames (record s { addresses = with_item s.addresses n (To to); shadow = shadow })
+hooks_dropped s v shadow n to e t u address frames =
     let r = hook_on_top s v n e t u in
-    let below : AreTied s.running (Hook ∷ reverse (take n s.addresses.items)) s.shadow.frames = rw r at t in
+    let below : HooksHaveFrames s.running (Hook ∷ reverse (take n s.addresses.items)) s.shadow.frames = rw r at t in
     let q = reverse-set_last s.addresses.items n (To to) u.top in
-    rw (q, frames, address) (AreTied-drop s.running (reverse (take n s.addresses.items)) s.shadow.frames below)
+    rw (q, frames, address) (HooksHaveFrames-drop s.running (reverse (take n s.addresses.items)) s.shadow.frames below)
 
 -- a frame that was found without users
-pub unused_at : (s : Inside) (v : CallStack) (m : ℕ) → stack_of s ≡ v → IsTied s → m ≡ length s.addresses.items → 0 < length v.calls
+pub unused_at : (s : Inside) (v : CallStack) (m : ℕ) → stack_of s ≡ v → HasHookFrames s → m ≡ length s.addresses.items → 0 < length v.calls
     → has_frame v.calls ≡ true → (length (users_on s.shadow.frames) == 0) ≡ true → IsUnused s v (m - 1)
 unused_at s v m e t h some has unused = record { top = place_of_top s v m e t h some; has = has; unused = unused }
 
 -- a call whose frame has users stays as it is
-pub used_stays : (s : Inside) (v : CallStack) → stack_of s ≡ v → IsTied s → has_frame v.calls ≡ true → (length (users_on s.shadow.frames) == 0) ≡ false
+pub used_stays : (s : Inside) (v : CallStack) → stack_of s ≡ v → HasHookFrames s → has_frame v.calls ≡ true → (length (users_on s.shadow.frames) == 0) ≡ false
     → v ≡ record v { calls = without_empty v.calls }
 used_stays s v e t has used =
     let on = on_frame s v e t has in

@@ -20,8 +20,8 @@ open_calls call (Hook ∷ below) [] = []
 open_calls call (Hook ∷ below) (f ∷ frames) = over call (Some f.users) (open_calls f.to below frames)
 
 -- the addresses name a call each, the outermost call's none, and each hook has its frame
-abbrev pub AreTied : Option CallNo → List Address → List ShadowFrame → Type 0
-AreTied call [] frames = (call ≡ None) × (frames ≡ [])
-AreTied call (To to ∷ below) frames = IsSome call × AreTied to below frames
-AreTied call (Hook ∷ below) [] = ⊥
-AreTied call (Hook ∷ below) (f ∷ frames) = IsSome call × AreTied f.to below frames
+abbrev pub HooksHaveFrames : Option CallNo → List Address → List ShadowFrame → Type 0
+HooksHaveFrames call [] frames = (call ≡ None) × (frames ≡ [])
+HooksHaveFrames call (To to ∷ below) frames = IsSome call × HooksHaveFrames to below frames
+HooksHaveFrames call (Hook ∷ below) [] = ⊥
+HooksHaveFrames call (Hook ∷ below) (f ∷ frames) = IsSome call × HooksHaveFrames f.to below frames

@@ -1,7 +1,7 @@
 pub mod Shadow
 pub mod Frames
-pub mod KeptShadow
+pub mod ShadowInvariant
 pub mod Calls
 pub mod Addresses
-pub mod KeptCalls
+pub mod CallStackInvariant
 pub mod Moves

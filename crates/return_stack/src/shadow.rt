@@ -46,11 +46,11 @@ impl Model for ShadowStack {
 
     ghost Value = { Shadow };
 
-    ghost use Rattle.return_stack.specs.KeptShadow.{shadow_of, IsKeptShadow};
+    ghost use Rattle.return_stack.specs.ShadowInvariant.{shadow_of, ShadowInvariant};
 
     ghost view = { shadow_of };
 
-    ghost invariant = { IsKeptShadow };
+    ghost invariant = { ShadowInvariant };
 }
 
 impl ShadowStack {

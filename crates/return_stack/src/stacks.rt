@@ -40,11 +40,11 @@ impl Model for Stacks {
 
     ghost Value = { CallStack };
 
-    ghost use Rattle.return_stack.specs.KeptCalls.{stack_of, IsKept};
+    ghost use Rattle.return_stack.specs.CallStackInvariant.{stack_of, CallStackInvariant};
 
     ghost view = { stack_of };
 
-    ghost invariant = { IsKept };
+    ghost invariant = { CallStackInvariant };
 }
 
 impl Stacks {

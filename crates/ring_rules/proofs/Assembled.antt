@@ -9,7 +9,7 @@ use Rattle.ring_rules.specs.Plan.{IsPlan, TracePlan}
 use Rattle.ring_rules.specs.Hits.{has, is_hit, is_of_cpu, quota, trigger}
 use Rattle.ring_rules.specs.Fold.{Ring, Rings}
 use Rattle.ring_rules.specs.Legal.{AreFired, IsRing, OtherFired, RingsLegal, fired_at, items_on, own_after}
-use Rattle.ring_rules.specs.Kept.{FiredElsewhere, Gathers, HasKept, IsOf, hits_on, total}
+use Rattle.ring_rules.specs.RingInvariant.{FiredElsewhere, Gathers, CpuInvariant, IsOf, hits_on, total}
 use Rattle.ring_rules.proofs.OneMore.{own-same}
 use Rattle.ring_rules.proofs.Lists.{each-front}
 use Rattle.ring_rules.proofs.OnCpus.{Stands, each-stands, hit-stands, hits-all, on-apart}
@@ -30,7 +30,7 @@ has-some (p ∷ ps) lt = (p, ap (λ b. b || has ps p) (==-refl p))
 
 module _ (plan : TracePlan) (is : IsPlan plan) (h : List Item) (of : IsOf plan h)
     (next : ℕ → ℕ) (own : ℕ → Bool) (hits : ℕ → ℕ → ℕ) (fired : ℕ → List (List ℕ)) (ring : ℕ → Ring) (saw : ℕ → Bool → Type 0)
-    (kept : (c : ℕ) → c < plan.cpus → HasKept plan (items_on plan c h) (next c) (own c) (hits c) (fired c) (ring c) (saw c)) where
+    (kept : (c : ℕ) → c < plan.cpus → CpuInvariant plan (items_on plan c h) (next c) (own c) (hits c) (fired c) (ring c) (saw c)) where
   -- a fired place of a CPU stands in the history
   pub fired-stands : (c i p : ℕ) → c < plan.cpus → i < length plan.triggers → has (fired_at (fired c) i) p ≡ true
       → (x : Item) × (slice_get h p ≡ Some x) × (is_hit (trigger plan i) x ≡ true) × (is_of_cpu plan c x ≡ true)

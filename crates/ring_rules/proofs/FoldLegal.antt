@@ -11,7 +11,7 @@ use Rattle.ring_rules.specs.Plan.{TracePlan}
 use Rattle.ring_rules.specs.Hits.{fires, has, hits_in, is_hit, is_of_cpu, is_traced, quota, stamp, trigger}
 use Rattle.ring_rules.specs.Fold.{Ring, Tracing, at_start, cpu_of_call, fold, after_item, after_items, hit_all, no_ring, write, written_at}
 use Rattle.ring_rules.specs.Legal.{AreFired, EachOnce, OtherFired, RingsLegal, fired_at, has_fired, items_on, own_after, switched}
-use Rattle.ring_rules.specs.Kept.{Grows, RingKept, ring_after}
+use Rattle.ring_rules.specs.RingInvariant.{Grows, RingInvariant, ring_after}
 use Rattle.ring_rules.proofs.OneMore.{ring-more, ring-same}
 use Rattle.ring_rules.proofs.Lists.{bool_cases, drop-none, equal, get-below, get-last, get-more, get-some, has-snoc, not-nil, once-snoc}
 use Rattle.ring_rules.proofs.Numbers.{at-zero, at-none, no-quota, num, plus-none, plus-one, quota-next}
@@ -24,17 +24,17 @@ traced-cpu plan (Back call u) e c = refl
 traced-cpu plan _ e c = false_true e
 
 -- what the fold keeps after some items
-record FoldKept (plan : TracePlan) (past : List Item) (s : Tracing) : Type 0 where
+record FoldInvariant (plan : TracePlan) (past : List Item) (s : Tracing) : Type 0 where
   hits : (i : ℕ) → i < length plan.triggers → slice_index s.hits i ≡ hits_in (trigger plan i) past
   lengths : (length s.hits ≡ length plan.triggers) × (length s.rings.fired ≡ length plan.triggers) × (length s.rings.cpus ≡ plan.cpus)
   fired : (i : ℕ) → i < length plan.triggers → AreFired past (trigger plan i) (fired_at s.rings.fired i)
   agrees : (c : ℕ) → c < plan.cpus → (s.on ≡ own_after plan s.rings.fired (items_on plan c past)) ⊎ OtherFired plan past s.rings.fired c s.on
   rings : (c : ℕ) → c < plan.cpus
-      → RingKept plan (items_on plan c past) (length past) (own_after plan s.rings.fired (items_on plan c past)) s.rings.fired
+      → RingInvariant plan (items_on plan c past) (length past) (own_after plan s.rings.fired (items_on plan c past)) s.rings.fired
       (slice_index_or s.rings.cpus c no_ring)
       (OtherFired plan past s.rings.fired c)
 
-module _ (plan : TracePlan) (past : List Item) (s : Tracing) (k : FoldKept plan past s) (item : Item) where
+module _ (plan : TracePlan) (past : List Item) (s : Tracing) (k : FoldInvariant plan past s) (item : Item) where
   abbrev p : ℕ
   p = length past
 
@@ -154,10 +154,10 @@ module _ (plan : TracePlan) (past : List Item) (s : Tracing) (k : FoldKept plan 
       ∙ ap (λ b. cond b (items_on plan c past ++ stamp (0 + length past) item ∷ []) (items_on plan c past)) e
 
   ring-off : (c : ℕ) → c < plan.cpus → is_of_cpu plan c item ≡ false
-      → RingKept plan (items_on plan c (past ++ item ∷ [])) (length (past ++ item ∷ [])) (own c) fired' (slice_index_or s.rings.cpus c no_ring)
+      → RingInvariant plan (items_on plan c (past ++ item ∷ [])) (length (past ++ item ∷ [])) (own c) fired' (slice_index_or s.rings.cpus c no_ring)
       (OtherFired plan (past ++ item ∷ []) fired' c)
   ring-off c lt e =
-      subst (λ l. RingKept plan l (length (past ++ item ∷ [])) (own c) fired' (slice_index_or s.rings.cpus c no_ring)
+      subst (λ l. RingInvariant plan l (length (past ++ item ∷ [])) (own c) fired' (slice_index_or s.rings.cpus c no_ring)
       (OtherFired plan (past ++ item ∷ []) fired' c)) (sym (items-off c e))
       (ring-same plan (items_on plan c past) (length past) (own c) s.rings.fired (slice_index_or s.rings.cpus c no_ring)
       (OtherFired plan past s.rings.fired c) (k.rings c lt) x
@@ -200,11 +200,11 @@ module _ (plan : TracePlan) (past : List Item) (s : Tracing) (k : FoldKept plan 
       (switched-by plan fired' x (length plan.triggers))
 
   ring-on : (c : ℕ) → c < plan.cpus → is_of_cpu plan c item ≡ true
-      → RingKept plan (items_on plan c (past ++ item ∷ [])) (length (past ++ item ∷ [])) (made (own c)) fired'
+      → RingInvariant plan (items_on plan c (past ++ item ∷ [])) (length (past ++ item ∷ [])) (made (own c)) fired'
       (ring_after plan now (length past) (slice_index_or s.rings.cpus c no_ring))
       (OtherFired plan (past ++ item ∷ []) fired' c)
   ring-on c lt e =
-      subst (λ l. RingKept plan l (length (past ++ item ∷ [])) (made (own c)) fired'
+      subst (λ l. RingInvariant plan l (length (past ++ item ∷ [])) (made (own c)) fired'
       (ring_after plan now (length past) (slice_index_or s.rings.cpus c no_ring))
       (OtherFired plan (past ++ item ∷ []) fired' c)) (sym (items-on c e))
       (ring-more plan (items_on plan c past) (length past) (own c) s.rings.fired (slice_index_or s.rings.cpus c no_ring)
@@ -304,14 +304,14 @@ module _ (plan : TracePlan) (past : List Item) (s : Tracing) (k : FoldKept plan 
 
   -- with the own switch as it is
   with-own : (c : ℕ) (o : Bool) (r : Ring)
-      → RingKept plan (items_on plan c (past ++ item ∷ [])) (length (past ++ item ∷ [])) o fired' r (OtherFired plan (past ++ item ∷ []) fired' c)
-      → RingKept plan (items_on plan c (past ++ item ∷ [])) (length (past ++ item ∷ []))
+      → RingInvariant plan (items_on plan c (past ++ item ∷ [])) (length (past ++ item ∷ [])) o fired' r (OtherFired plan (past ++ item ∷ []) fired' c)
+      → RingInvariant plan (items_on plan c (past ++ item ∷ [])) (length (past ++ item ∷ []))
       (own_after plan fired' (items_on plan c (past ++ item ∷ []))) fired' r (OtherFired plan (past ++ item ∷ []) fired' c)
   with-own c o r g =
-      subst (λ b. RingKept plan (items_on plan c (past ++ item ∷ [])) (length (past ++ item ∷ [])) b fired' r
+      subst (λ b. RingInvariant plan (items_on plan c (past ++ item ∷ [])) (length (past ++ item ∷ [])) b fired' r
       (OtherFired plan (past ++ item ∷ []) fired' c)) g.own' g
 
-  kept-goes : FoldKept plan (past ++ item ∷ []) s2
+  kept-goes : FoldInvariant plan (past ++ item ∷ []) s2
   kept-goes = record {
     hits = λ i small.
         ap (λ l. slice_index l i) hits-is ∙ h.hits i small ∙ ap (λ m. m + num (is_hit (trigger plan i) item)) (k.hits i small)
@@ -328,17 +328,17 @@ module _ (plan : TracePlan) (past : List Item) (s : Tracing) (k : FoldKept plan 
     rings = λ c lt.
         subst
         (λ f.
-        RingKept plan (items_on plan c (past ++ item ∷ [])) (length (past ++ item ∷ [])) (own_after plan f (items_on plan c (past ++ item ∷ []))) f
+        RingInvariant plan (items_on plan c (past ++ item ∷ [])) (length (past ++ item ∷ [])) (own_after plan f (items_on plan c (past ++ item ∷ []))) f
         (slice_index_or s2.rings.cpus c no_ring) (OtherFired plan (past ++ item ∷ []) f c))
         (sym fired-is)
         (⊎_elim
         (λ e. subst
-        (λ r. RingKept plan (items_on plan c (past ++ item ∷ [])) (length (past ++ item ∷ []))
+        (λ r. RingInvariant plan (items_on plan c (past ++ item ∷ [])) (length (past ++ item ∷ []))
         (own_after plan fired' (items_on plan c (past ++ item ∷ []))) fired' r
         (OtherFired plan (past ++ item ∷ []) fired' c)) (sym (ring-at-on c lt e))
         (with-own c (made (own c)) (ring_after plan now (length past) (slice_index_or s.rings.cpus c no_ring)) (ring-on c lt e)))
         (λ e. subst
-        (λ r. RingKept plan (items_on plan c (past ++ item ∷ [])) (length (past ++ item ∷ []))
+        (λ r. RingInvariant plan (items_on plan c (past ++ item ∷ [])) (length (past ++ item ∷ []))
         (own_after plan fired' (items_on plan c (past ++ item ∷ []))) fired' r
         (OtherFired plan (past ++ item ∷ []) fired' c)) (sym (ring-at-off c e))
         (with-own c (own c) (slice_index_or s.rings.cpus c no_ring) (ring-off c lt e)))
@@ -347,13 +347,13 @@ module _ (plan : TracePlan) (past : List Item) (s : Tracing) (k : FoldKept plan 
 
 -- ## all items
 
-goes-on-kept : (plan : TracePlan) (past rest : List Item) (s : Tracing) → FoldKept plan past s
-    → FoldKept plan (past ++ rest) (after_items plan (length past) rest s)
-goes-on-kept plan past [] s k = subst (λ l. FoldKept plan l s) (sym (append-nil past)) k
+goes-on-kept : (plan : TracePlan) (past rest : List Item) (s : Tracing) → FoldInvariant plan past s
+    → FoldInvariant plan (past ++ rest) (after_items plan (length past) rest s)
+goes-on-kept plan past [] s k = subst (λ l. FoldInvariant plan l s) (sym (append-nil past)) k
 goes-on-kept plan past (item ∷ rest) s k =
     let next = goes-on-kept plan (past ++ item ∷ []) rest (after_item plan (length past) item s) (kept-goes plan past s k item) in
     let more : length (past ++ item ∷ []) ≡ suc (length past) = (let a = length-append past (item ∷ []) in omega (arith, a)) in
-    subst (λ (z : List Item × ℕ). FoldKept plan z.0 (after_items plan z.1 rest (after_item plan (length past) item s)))
+    subst (λ (z : List Item × ℕ). FoldInvariant plan z.0 (after_items plan z.1 rest (after_item plan (length past) item s)))
     (λ j. (append_assoc past (item ∷ []) rest j, more j)) next
 
 at-no-ring : (m c : ℕ) → slice_index_or (replicate m no_ring) c no_ring ≡ no_ring
@@ -361,7 +361,7 @@ at-no-ring zero c = refl
 at-no-ring (suc m) zero = refl
 at-no-ring (suc m) (suc c) = at-no-ring m c
 
-start-kept : (plan : TracePlan) → FoldKept plan [] (at_start plan)
+start-kept : (plan : TracePlan) → FoldInvariant plan [] (at_start plan)
 start-kept plan = record {
   hits = λ i small. at-zero (length plan.triggers) i;
   lengths = (length-replicate (length plan.triggers) 0, length-replicate (length plan.triggers) [], length-replicate plan.cpus no_ring);

@@ -10,7 +10,7 @@ use Rattle.ft_base.specs.declared.item.Stamped.{Stamped}
 use Rattle.ring_rules.specs.Plan.{TracePlan}
 use Rattle.ring_rules.specs.Hits.{has, is_hit, is_traced}
 use Rattle.ring_rules.specs.Legal.{EachOnce, IsSublist, traced_places}
-use Rattle.ring_rules.specs.Kept.{hit_at, hits_on}
+use Rattle.ring_rules.specs.RingInvariant.{hit_at, hits_on}
 
 -- ## tests
 

@@ -12,7 +12,7 @@ use Rattle.ft_base.specs.declared.item.Stamped.{Stamped}
 use Rattle.ring_rules.specs.Plan.{IsPlan, TracePlan}
 use Rattle.ring_rules.specs.Hits.{hits_in, is_hit, is_of_cpu, stamp, call_on}
 use Rattle.ring_rules.specs.Legal.{items_from}
-use Rattle.ring_rules.specs.Kept.{IsOf, hit_at, hits_on, total}
+use Rattle.ring_rules.specs.RingInvariant.{IsOf, hit_at, hits_on, total}
 use Rattle.ring_rules.proofs.Lists.{apart, equal}
 use Rattle.ring_rules.proofs.Numbers.{num}
 use Rattle.ring_rules.proofs.Totals.{total-more, total-same}

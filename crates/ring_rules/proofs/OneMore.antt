@@ -11,7 +11,7 @@ use Rattle.ring_rules.specs.Plan.{TracePlan}
 use Rattle.ring_rules.specs.Hits.{has, is_hit, is_traced, trigger}
 use Rattle.ring_rules.specs.Fold.{Ring, write}
 use Rattle.ring_rules.specs.Legal.{EachOnce, IsSublist, fired_at, own_after, own_from, switched, traced_places}
-use Rattle.ring_rules.specs.Kept.{Grows, HasKept, RingKept, hit_at, ring_after}
+use Rattle.ring_rules.specs.RingInvariant.{Grows, CpuInvariant, RingInvariant, hit_at, ring_after}
 use Rattle.ring_rules.proofs.Lists.{any-snoc, bool_cases, each-front, each-middle, has-apart, has-last, has-snoc, hit_at-below, hits-snoc, once-snoc, snoc-cut, sub-has, sub-keep, sub-take, traced-below, traced-snoc}
 
 -- ## the own switch
@@ -56,7 +56,7 @@ written_after now ws p = if now then ws ++ p ∷ [] else ws
 
 -- the ring, of which the other CPUs' items may be noted too
 module _ (plan : TracePlan) (items : List Stamped) (next : ℕ) (own : Bool) (fired : List (List ℕ)) (ring : Ring) (saw : Bool → Type 0)
-    (k : RingKept plan items next own fired ring saw) (x : Stamped) (low : next ≤ x.place) (next' : ℕ) (high : x.place < next')
+    (k : RingInvariant plan items next own fired ring saw) (x : Stamped) (low : next ≤ x.place) (next' : ℕ) (high : x.place < next')
     (fired' : List (List ℕ)) (grows : Grows plan x fired fired')
     (own' : Bool) (own-is : own' ≡ switched plan fired' x (length plan.triggers) own)
     (saw' : Bool → Type 0) (more : (b : Bool) → saw b → saw' b)
@@ -162,7 +162,7 @@ module _ (plan : TracePlan) (items : List Stamped) (next : ℕ) (own : Bool) (fi
       (sym (same-written y.place (each-middle (λ z. z.place < next) before y t.0 all)) ∙ is-in)))
       (snoc-cut items x before y after cut)
 
-  pub ring-more : RingKept plan (items ++ x ∷ []) next' own' fired' (ring_after plan now x.place ring) saw'
+  pub ring-more : RingInvariant plan (items ++ x ∷ []) next' own' fired' (ring_after plan now x.place ring) saw'
   ring-more = record {
     below = Each-snoc (λ y. y.place < next') items x
         (Each-weaker (λ y. y.place < next) (λ y. y.place < next') items (λ y lt. omega (arith, lt, low, high)) k.below) high;
@@ -177,9 +177,9 @@ module _ (plan : TracePlan) (items : List Stamped) (next : ℕ) (own : Bool) (fi
 
 -- a ring to which an item of another CPU comes
 pub ring-same : (plan : TracePlan) (items : List Stamped) (next : ℕ) (own : Bool) (fired : List (List ℕ)) (ring : Ring) (saw : Bool → Type 0)
-    → RingKept plan items next own fired ring saw → (x : Stamped) → next ≤ x.place → (next' : ℕ) → x.place < next' → (fired' : List (List ℕ))
+    → RingInvariant plan items next own fired ring saw → (x : Stamped) → next ≤ x.place → (next' : ℕ) → x.place < next' → (fired' : List (List ℕ))
     → Grows plan x fired fired'
-    → (saw' : Bool → Type 0) → ((b : Bool) → saw b → saw' b) → RingKept plan items next' own fired' ring saw'
+    → (saw' : Bool → Type 0) → ((b : Bool) → saw b → saw' b) → RingInvariant plan items next' own fired' ring saw'
 ring-same plan items next own fired ring saw k x low next' high fired' grows saw' more = record {
   below = Each-weaker (λ y. y.place < next) (λ y. y.place < next') items (λ y lt. omega (arith, lt, low, high)) k.below;
   own' = k.own' ∙ same items k.below;
@@ -207,7 +207,7 @@ ring-same plan items next own fired ring saw k x low next' high fired' grows saw
         all)
 
 module _ (plan : TracePlan) (items : List Stamped) (next : ℕ) (own : Bool) (hits : ℕ → ℕ) (fired : List (List ℕ)) (ring : Ring) (saw : Bool → Type 0)
-    (k : HasKept plan items next own hits fired ring saw) (x : Stamped) (low : next ≤ x.place) (next' : ℕ) (next-is : next' ≡ suc x.place)
+    (k : CpuInvariant plan items next own hits fired ring saw) (x : Stamped) (low : next ≤ x.place) (next' : ℕ) (next-is : next' ≡ suc x.place)
     (hits' : ℕ → ℕ) (hit : (i : ℕ) → i < length plan.triggers → hits' i ≡ hits i + (if is_hit (trigger plan i) x.item then 1 else 0))
     (fired' : List (List ℕ)) (count' : length fired' ≡ length fired) (grows : Grows plan x fired fired')
     (own' : Bool) (own-is : own' ≡ switched plan fired' x (length plan.triggers) own)
@@ -218,10 +218,10 @@ module _ (plan : TracePlan) (items : List Stamped) (next : ℕ) (own : Bool) (hi
   high : x.place < next'
   high = omega (arith, next-is)
 
-  abbrev ring-part : RingKept plan items next own fired ring saw
+  abbrev ring-part : RingInvariant plan items next own fired ring saw
   ring-part = record { below = k.below; own' = k.own'; written = k.written; some_of = k.some_of; keeps = k.keeps; missed = k.missed; extra = k.extra }
 
-  ring' : RingKept plan (items ++ x ∷ []) next' own' fired' (ring_after plan now x.place ring) saw'
+  ring' : RingInvariant plan (items ++ x ∷ []) next' own' fired' (ring_after plan now x.place ring) saw'
   ring' = ring-more plan items next own fired ring saw ring-part x low next' high fired' grows own' own-is saw' more now untraced skipped taken
 
   places' : (i p : ℕ) → i < length plan.triggers → has (fired_at fired' i) p ≡ true → hit_at (trigger plan i) p (items ++ x ∷ []) ≡ true
@@ -247,7 +247,7 @@ module _ (plan : TracePlan) (items : List Stamped) (next : ℕ) (own : Bool) (hi
       new true e = let lt = hit_at-below (trigger plan i) next x.place items k.below (k.places i x.place small e) in absurd (omega (arith, lt, low))
       new false e = refl
 
-  pub kept-more : HasKept plan (items ++ x ∷ []) next' own' hits' fired' (ring_after plan now x.place ring) saw'
+  pub kept-more : CpuInvariant plan (items ++ x ∷ []) next' own' hits' fired' (ring_after plan now x.place ring) saw'
   kept-more = record {
     below = ring'.below;
     least = λ p all. (let lt = each-middle (λ y. y.place < p) items x [] all in omega (arith, lt, next-is));

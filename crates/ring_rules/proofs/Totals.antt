@@ -2,7 +2,7 @@
 use Rattle.std.proofs.Common.{◌≡◌, ◌≢◌, ◌⊎◌, ℕ, zero, suc, ◌+◌, ◌*◌, ◌<◌, ◌≤◌, Bool, true, false, inl, inr, ⊎_elim, refl, sym, subst, arith}
 use Rattle.std.specs.Prelude.{◌==◌}
 use Rattle.std.proofs.lemmas.Bool.Decides.{nat_tests}
-use Rattle.ring_rules.specs.Kept.{total}
+use Rattle.ring_rules.specs.RingInvariant.{total}
 
 pub same-or : (m n : ℕ) → (m ≡ n) ⊎ (m ≢ n)
 same-or m n = by (m == n) refl

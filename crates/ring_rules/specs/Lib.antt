@@ -2,5 +2,5 @@ pub mod Plan
 pub mod Hits
 pub mod Fold
 pub mod Legal
-pub mod Kept
+pub mod RingInvariant
 pub mod Gathered

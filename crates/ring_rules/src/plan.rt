@@ -2,7 +2,7 @@
 
 ghost use Rattle.std.specs.Prelude.{◌≡◌, ◌<◌, length, map};
 ghost use Rattle.ft_base.specs.Items.{call_of};
-ghost use Rattle.filter_commands.specs.Kept.{plain_trigger};
+ghost use Rattle.filter_commands.specs.Meanings.{plain_trigger};
 ghost use Rattle.ring_rules.specs.Fold.{cpu_of_call};
 ghost use Rattle.ring_rules.specs.Hits.{fires, is_hit, is_traced, quota, trigger};
 ghost use Rattle.ring_rules.specs.Plan.{IsPlan};
@@ -25,7 +25,7 @@ pub struct TracePlan {
 
 impl Model for TracePlan {
     ghost use Rattle.std.specs.Prelude.{map};
-    ghost use Rattle.filter_commands.specs.Kept.{plain_trigger};
+    ghost use Rattle.filter_commands.specs.Meanings.{plain_trigger};
     ghost use Rattle.ring_rules.specs.Plan.{IsPlan, TracePlan as PlainPlan};
 
     ghost Value = { PlainPlan };

@@ -16,7 +16,7 @@ use Rattle.ring_rules.specs.Hits.{has, quota, trigger}
 use Rattle.ring_rules.specs.Fold.{Ring, Rings, no_ring}
 use Rattle.ring_rules.specs.Gathered.{AreFew, all_fired, places_in}
 use Rattle.ring_rules.specs.Legal.{EachOnce, RingsLegal, fired_at, items_on}
-use Rattle.ring_rules.specs.Kept.{FiredElsewhere, Gathers, HasKept, IsOf, total}
+use Rattle.ring_rules.specs.RingInvariant.{FiredElsewhere, Gathers, CpuInvariant, IsOf, total}
 use Rattle.ring_rules.proofs.Assembled.{assembled, fired-apart, same-value}
 use Rattle.ring_rules.proofs.Lists.{bool_cases, none-some}
 use Rattle.ring_rules.proofs.Numbers.{no-quota}
@@ -151,11 +151,11 @@ module _ {S : Type 0} (plan : TracePlan) (t : State S View) (r : RingRule plan t
       let p = stands c s e in
       (r.covers.fits id v at p.0 (part (cpu s.number) s.known) p.1).has ∙ ap knows (numbers c s e)
 
-  kept : (c : ℕ) → c < plan.cpus → HasKept plan (items_on plan c h) (next c) (knows c).own (hits_of (knows c)) (fired c) (ring c)
+  kept : (c : ℕ) → c < plan.cpus → CpuInvariant plan (items_on plan c h) (next c) (knows c).own (hits_of (knows c)) (fired c) (ring c)
       (λ b. saw (knows c) b ≡ true)
   kept c lt =
       let s = inside c lt in
-      subst (λ (z : ℕ × Known × List (List ℕ) × Ring). HasKept plan (items_on plan c h) z.0 z.1.own (hits_of z.1) z.2 z.3 (λ b. saw z.1 b ≡ true))
+      subst (λ (z : ℕ × Known × List (List ℕ) × Ring). CpuInvariant plan (items_on plan c h) z.0 z.1.own (hits_of z.1) z.2 z.3 (λ b. saw z.1 b ≡ true))
       (λ j. (sym (next-is c s.0 s.1) j, known-is c s.0 s.1 j, sym (fired-of c s.0 s.1) j, sym (ring-of c s.0 s.1) j))
       (have c s.0 s.1).made
 

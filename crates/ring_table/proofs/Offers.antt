@@ -6,7 +6,7 @@ use Rattle.ft_base.specs.declared.item.Stamped.{Stamped}
 use Rattle.ring_rules.specs.Plan.{TracePlan}
 use Rattle.ring_rules.specs.Hits.{fires, has, is_hit, is_traced, trigger}
 use Rattle.ring_rules.specs.Legal.{fired_at, switched}
-use Rattle.ring_rules.specs.Kept.{HasKept, ring_after}
+use Rattle.ring_rules.specs.RingInvariant.{CpuInvariant, ring_after}
 use Rattle.ring_rules.proofs.OneMore.{kept-more, switched-same}
 use Rattle.ring_rules.proofs.HitAll.{no-switch}
 use Rattle.ring_rules.proofs.Lists.{has-last}
@@ -209,9 +209,9 @@ module _ (items : List Stamped) (x : Stamped) (s t : SeatPlace) (low : s.next �
       omega (arith, many, was, left, all, room)
 
   untraced-made : is_traced s.plan x.item ≡ false
-      → HasKept s.plan (items ++ x ∷ []) t.next t.known.own (hits_of t.known) t.fired t.ring (λ b. saw t.known b ≡ true)
+      → CpuInvariant s.plan (items ++ x ∷ []) t.next t.known.own (hits_of t.known) t.fired t.ring (λ b. saw t.known b ≡ true)
   untraced-made e =
-      subst (λ r. HasKept s.plan (items ++ x ∷ []) t.next t.known.own (hits_of t.known) t.fired r (λ b. saw t.known b ≡ true)) (sym ring-is)
+      subst (λ r. CpuInvariant s.plan (items ++ x ∷ []) t.next t.known.own (hits_of t.known) t.fired r (λ b. saw t.known b ≡ true)) (sym ring-is)
       (kept-more s.plan items s.next s.known.own (hits_of s.known) s.fired s.ring (λ b. saw s.known b ≡ true) has-items.made x low t.next
       (let n = next-is in omega (arith, n))
       (hits_of t.known) h.hits t.fired h.lengths.1 h.grows t.known.own h.own (λ b. saw t.known b ≡ true) (λ b q. h.saw' b ∙ q)
@@ -221,10 +221,10 @@ module _ (items : List Stamped) (x : Stamped) (s t : SeatPlace) (low : s.next �
   untraced e = record { made = untraced-made e; offered = one-more-offered }
 
   traced-made : is_traced s.plan x.item ≡ true → (on : Bool)
-      → HasKept s.plan (items ++ x ∷ []) t.next t.known.own (hits_of t.known) t.fired (ring_after t.plan on x.place t.ring)
+      → CpuInvariant s.plan (items ++ x ∷ []) t.next t.known.own (hits_of t.known) t.fired (ring_after t.plan on x.place t.ring)
       (λ b. saw (looked on t.known) b ≡ true)
   traced-made e on =
-      subst (λ r. HasKept s.plan (items ++ x ∷ []) t.next t.known.own (hits_of t.known) t.fired r (λ b. saw (looked on t.known) b ≡ true))
+      subst (λ r. CpuInvariant s.plan (items ++ x ∷ []) t.next t.known.own (hits_of t.known) t.fired r (λ b. saw (looked on t.known) b ≡ true))
       (λ j. ring_after (sym plan-same j) on x.place (sym ring-is j))
       (kept-more s.plan items s.next s.known.own (hits_of s.known) s.fired s.ring (λ b. saw s.known b ≡ true) has-items.made x low t.next
       (let n = next-is in omega (arith, n))

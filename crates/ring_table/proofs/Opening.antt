@@ -6,7 +6,7 @@ use Rattle.ft_base.proofs.Small.{false_true}
 use Rattle.ring_rules.specs.Plan.{IsPlan, TracePlan}
 use Rattle.ring_rules.specs.Hits.{quota, trigger}
 use Rattle.ring_rules.proofs.Numbers.{at-zero, no-quota}
-use Rattle.ring_rules.specs.Kept.{total}
+use Rattle.ring_rules.specs.RingInvariant.{total}
 use Rattle.ring_table.specs.Views.{first_view, nothing}
 use Rattle.ring_table.specs.Tally.{IsTally, Others, bit, fired_of, hits_of, saw}
 use Rattle.ring_table.specs.Rule.{RingRule}

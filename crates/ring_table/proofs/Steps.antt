@@ -11,7 +11,7 @@ use Rattle.ring_rules.specs.Plan.{TracePlan}
 use Rattle.ring_rules.specs.Hits.{fires, has, is_hit, quota, trigger}
 use Rattle.ring_rules.specs.Fold.{Ring, write}
 use Rattle.ring_rules.specs.Gathered.{RingBox, lists_of, written_box}
-use Rattle.ring_rules.specs.Kept.{ring_after}
+use Rattle.ring_rules.specs.RingInvariant.{ring_after}
 use Rattle.ring_rules.specs.Legal.{fired_at}
 use Rattle.ring_rules.proofs.Lists.{equal, has-snoc}
 use Rattle.ring_rules.proofs.Totals.{same-or}

@@ -5,7 +5,7 @@ use Rattle.ft_base.proofs.Small.{false_true}
 use Rattle.ft_base.specs.declared.limits.TheConstants.{ITEMS}
 use Rattle.ring_rules.specs.Plan.{IsPlan, TracePlan}
 use Rattle.ring_rules.specs.Hits.{fires, quota, trigger}
-use Rattle.ring_rules.specs.Kept.{total}
+use Rattle.ring_rules.specs.RingInvariant.{total}
 use Rattle.ring_rules.proofs.Numbers.{num, plus-none, plus-one, quota-next}
 use Rattle.ring_rules.proofs.Totals.{same-or, total-below, total-more, total-part, total-same}
 use Rattle.ring_table.specs.declared.view.Known.{Known}

@@ -10,7 +10,7 @@ use Rattle.ring_rules.specs.Plan.{IsPlan, TracePlan}
 use Rattle.ring_rules.specs.Hits.{fires, has, is_hit, quota, trigger}
 use Rattle.ring_rules.specs.Fold.{Ring, no_ring}
 use Rattle.ring_rules.specs.Legal.{fired_at, items_on, switched}
-use Rattle.ring_rules.specs.Kept.{HasKept, ring_after}
+use Rattle.ring_rules.specs.RingInvariant.{CpuInvariant, ring_after}
 use Rattle.ring_rules.specs.Gathered.{RingBox, lists_of, no_lists}
 use Rattle.ring_table.specs.declared.view.Known.{Known}
 use Rattle.ring_table.specs.Views.{Part, View, cpu_view, nothing}
@@ -83,7 +83,7 @@ pub record SeatSits {S : Type 0} (me : Me S View) (known : Known) (c : ℕ) (rin
 --   made      it has made of them what a CPU has to
 --   offered   they and those that may still be offered fill its room
 pub record SeatHas (plan : TracePlan) (items : List Stamped) (s : SeatPlace) : Type 0 where
-  pub made : HasKept plan items s.next s.known.own (hits_of s.known) s.fired s.ring (λ b. saw s.known b ≡ true)
+  pub made : CpuInvariant plan items s.next s.known.own (hits_of s.known) s.fired s.ring (λ b. saw s.known b ≡ true)
   pub offered : length items + s.left ≡ s.room
 
 -- a seat of the table

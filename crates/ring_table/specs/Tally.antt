@@ -3,7 +3,7 @@ use Rattle.std.specs.Prelude.{ℕ, suc, ◌≡◌, ◌≢◌, ◌⊎◌, ◌<◌
 use Rattle.ft_base.specs.declared.limits.TheConstants.{ITEMS}
 use Rattle.ring_rules.specs.Plan.{TracePlan}
 use Rattle.ring_rules.specs.Hits.{fires, quota, trigger}
-use Rattle.ring_rules.specs.Kept.{total}
+use Rattle.ring_rules.specs.RingInvariant.{total}
 use Rattle.ring_table.specs.declared.view.Known.{Known}
 
 -- a switch as the word of tracing has it

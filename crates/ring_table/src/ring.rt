@@ -5,7 +5,7 @@ ghost use Rattle.ft_base.specs.declared.item.Item.{Item as PlainItem};
 ghost use Rattle.ft_base.specs.declared.item.Stamped.{Stamped as PlainStamped};
 ghost use Rattle.ft_base.specs.declared.limits.TheConstants.{ITEMS};
 ghost use Rattle.ring_rules.specs.Hits.{has};
-ghost use Rattle.ring_rules.specs.Kept.{IsOf};
+ghost use Rattle.ring_rules.specs.RingInvariant.{IsOf};
 ghost use Rattle.ring_rules.specs.Legal.{RingsLegal, fired_at};
 ghost use Rattle.ring_table.specs.Seats.{AreNew, AreSeats, HaveItems, HitFor, Hits, IsNext, SeatHas, SitsAt, looked_with};
 ghost use Rattle.ring_table.specs.Tally.{hits_of};

@@ -27,7 +27,7 @@ use Rattle.ft_script.specs.Above.{Above}
 use Rattle.ft_script.specs.Expansion.{expansion_of}
 use Rattle.ft_script.specs.Script.{declared_in, job_of, job_tasks_of, called_by, is_named_module, lies_in_named, needs_named, MayFindUnloaded, user_may, call_may, IsJobOf}
 use Rattle.ft_script.specs.Holds.{LanesHold, Holds}
-use Rattle.ft_script.proofs.Carried.{lanes-carried}
+use Rattle.ft_script.proofs.JobLines.{lanes-carried}
 use Rattle.ft_script.proofs.Coverage.{is-known, call-of_script}
 use Rattle.script_jobs.proofs.Texts.{can_run}
 

@@ -4,7 +4,7 @@ use Rattle.std.proofs.lemmas.List.{length-reverse}
 use Rattle.return_stack.proofs.StackLemmas.{reverse-last, reverse-set_last}
 use Rattle.task_core.specs.declared.open_call.OpenCall.{OpenCall}
 use Rattle.task_core.specs.declared.open_call.OpenCalls.TheInside.{Inside}
-use Rattle.task_core.specs.KeptOpens.{opens_of}
+use Rattle.task_core.specs.OpenCallsInvariant.{opens_of}
 use Rattle.task_core.specs.Opens.{Opens, no_call}
 
 -- there are as many calls as contracts see

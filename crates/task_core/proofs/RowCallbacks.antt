@@ -26,13 +26,13 @@ use Rattle.task_core.specs.Leads.{act_to}
 use Rattle.task_core.specs.States.{joined, moment_at, stack_in, state_of, users_in}
 use Rattle.task_core.specs.TaskSteps.{lacks_frame, stacks_after}
 use Rattle.task_core.specs.TaskSteps as code
-use Rattle.task_core.specs.Tied.{IsTaskOf}
+use Rattle.task_core.specs.StackInvariant.{IsTaskOf}
 use Rattle.task_core.proofs.Callbacks.{fprobe-called, graph-called, other-called}
 use Rattle.task_core.proofs.RowLists.{standing}
 use Rattle.task_core.proofs.RowStacks.{back-is, stack-is}
 use Rattle.task_core.proofs.RowMarks.{act-moment}
 use Rattle.task_core.proofs.Stacks.{misses-same}
-use Rattle.task_core.proofs.SteadyMarks.{called-framed}
+use Rattle.task_core.proofs.InvariantMarks.{called-framed}
 
 -- of all users an fprobe alone has an exit that may find no frame
 no-exit : (k : Kind) → is_fprobe k ≡ false → has_exit k ≡ false

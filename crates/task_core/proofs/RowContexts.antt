@@ -27,10 +27,10 @@ use Rattle.task_core.specs.Contexts.{act_context, is_open_to_requests}
 use Rattle.task_core.specs.Moments.{reading_at, walking_at}
 use Rattle.task_core.specs.Opens.{no_call}
 use Rattle.task_core.specs.States.{ending_exit, exiting, load_moment, mark_moment, moment_of, stack_in, state_of, users_in}
-use Rattle.task_core.specs.Tied.{IsReading, IsTaskOf, IsWalking}
+use Rattle.task_core.specs.StackInvariant.{IsReading, IsTaskOf, IsWalking}
 use Rattle.task_core.proofs.RowLists.{get-first, owed-split, standing}
 use Rattle.task_core.proofs.RowMoments.{load-loud, mark-loud, no-call}
-use Rattle.task_core.proofs.SteadyRaised.{quiet-raised}
+use Rattle.task_core.proofs.ActContexts.{quiet-raised}
 
 -- ## a task in a call
 

@@ -21,12 +21,12 @@ use Rattle.task_core.specs.declared.task.Task.{Task}
 use Rattle.task_core.specs.Opens.{top_of}
 use Rattle.task_core.specs.Setups.{setup_in}
 use Rattle.task_core.specs.States.{joined, stack_in, state_of, users_in}
-use Rattle.task_core.specs.Steady.{IsCalled, act_raised}
+use Rattle.task_core.specs.TaskInvariant.{IsCalled, act_raised}
 use Rattle.task_core.specs.TaskSteps.{after_first, at, body_begun, finished, returned, without_raised}
-use Rattle.task_core.specs.Tied.{IsTaskOf}
+use Rattle.task_core.specs.StackInvariant.{IsTaskOf}
 use Rattle.task_core.proofs.RowExits.{from-row}
 use Rattle.task_core.proofs.RowLists.{rest-drop, standing}
-use Rattle.task_core.proofs.SteadyRaised.{back-raised, quiet-raised, script-back_raised}
+use Rattle.task_core.proofs.ActContexts.{back-raised, quiet-raised, script-back_raised}
 
 -- ## the first operation of an act
 

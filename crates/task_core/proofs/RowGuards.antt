@@ -19,13 +19,13 @@ use Rattle.task_core.specs.declared.moment.ToMark.TheVariants.{Refusing, Calling
 use Rattle.task_core.specs.declared.open_call.OpenCall.{OpenCall as CodeCall}
 use Rattle.task_core.specs.declared.task.Task.{Task}
 use Rattle.task_core.specs.States.{joined, moment_of, stack_in, state_of}
-use Rattle.task_core.specs.Steady.{holds_guard, is_dispatching}
+use Rattle.task_core.specs.TaskInvariant.{holds_guard, is_dispatching}
 use Rattle.task_core.specs.TaskSteps.{guard_tested, tested}
 use Rattle.task_core.specs.TaskSteps as code
-use Rattle.task_core.specs.Tied.{IsTaskOf}
+use Rattle.task_core.specs.StackInvariant.{IsTaskOf}
 use Rattle.task_core.proofs.RowLists.{standing}
-use Rattle.task_core.proofs.SteadyContexts.{context-is}
-use Rattle.task_core.proofs.SteadyGuards.{guards-free}
+use Rattle.task_core.proofs.CallContexts.{context-is}
+use Rattle.task_core.proofs.ExitGuards.{guards-free}
 
 module _ (job : Job) (t : Task) (o : CodeCall) (os : List CodeCall) (s : StackedCall) (ss : List StackedCall) (m : CodeMoment) where
   -- the task at the moment, and its top call as the machine has it

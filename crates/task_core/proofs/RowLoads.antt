@@ -36,10 +36,10 @@ use Rattle.task_core.specs.Leads.{head_to}
 use Rattle.task_core.specs.Moments.{reading_at, walking_at}
 use Rattle.task_core.specs.Setups.{setup_in}
 use Rattle.task_core.specs.States.{joined, load_moment, stack_in, state_of, users_in}
-use Rattle.task_core.specs.Steady.{holds_guard, is_dispatching}
+use Rattle.task_core.specs.TaskInvariant.{holds_guard, is_dispatching}
 use Rattle.task_core.specs.TaskSteps.{after_load, depth_tested, guard_tested, judged, own_stated, pid_tested, tested, walked}
 use Rattle.task_core.specs.TaskSteps as code
-use Rattle.task_core.specs.Tied.{IsReading, IsTaskOf, IsWalking, WalksAt, at_user}
+use Rattle.task_core.specs.StackInvariant.{IsReading, IsTaskOf, IsWalking, WalksAt, at_user}
 use Rattle.task_core.proofs.RowExits.{live-row}
 use Rattle.task_core.proofs.RowGuards.{begin-row, guard-is, guard-row}
 use Rattle.task_core.proofs.RowLists.{standing}

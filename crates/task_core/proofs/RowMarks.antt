@@ -23,9 +23,9 @@ use Rattle.task_core.specs.declared.task.Task.{Task}
 use Rattle.task_core.specs.Leads.{act_to, after_user_to}
 use Rattle.task_core.specs.Moments.{walking_at}
 use Rattle.task_core.specs.States.{joined, moment_at, stack_in, state_of, users_in}
-use Rattle.task_core.specs.Steady.{act_raised}
+use Rattle.task_core.specs.TaskInvariant.{act_raised}
 use Rattle.task_core.specs.TaskSteps.{acted, at, passed, with_raised}
-use Rattle.task_core.specs.Tied.{at_user}
+use Rattle.task_core.specs.StackInvariant.{at_user}
 use Rattle.task_core.proofs.RowLists.{standing}
 
 -- in a callback: the call of the user's act, or the end

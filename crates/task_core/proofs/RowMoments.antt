@@ -20,7 +20,7 @@ use Rattle.task_core.specs.declared.open_call.OpenCall.{OpenCall as CodeCall}
 use Rattle.task_core.specs.declared.task.Task.{Task}
 use Rattle.task_core.specs.Moments.{reading_at, walking_at}
 use Rattle.task_core.specs.States.{ending_exit, exiting, load_moment, mark_moment, moment_of}
-use Rattle.task_core.specs.Tied.{IsTaskOf}
+use Rattle.task_core.specs.StackInvariant.{IsTaskOf}
 use Rattle.task_core.proofs.RowLists.{standing}
 
 walk-loud : (phase : WalkPhase) → is_quiet (walking_at phase) ≡ false

@@ -33,10 +33,10 @@ use Rattle.task_core.specs.Opens.{no_call}
 use Rattle.task_core.specs.Moments.{reading_at, walking_at}
 use Rattle.task_core.specs.States.{ending_exit, exiting, is_polling, joined, load_moment, mark_moment, moment_of, stack_in, state_of, users_in}
 use Rattle.task_core.specs.TaskOps.{first_op, item_of, load_op, op_of}
-use Rattle.task_core.specs.Tied.{IsReading, IsTaskOf, IsWalking}
+use Rattle.task_core.specs.StackInvariant.{IsReading, IsTaskOf, IsWalking}
 use Rattle.task_core.proofs.RowLists.{get-first, owed-split, standing}
 use Rattle.task_core.proofs.RowStacks.{caller-top, latest-top}
-use Rattle.task_core.proofs.SteadyRaised.{quiet-raised}
+use Rattle.task_core.proofs.ActContexts.{quiet-raised}
 use Rattle.task_core.proofs.RowMoments.{load-loud, mark-loud, no-call}
 
 -- the machine's task with these calls

@@ -11,7 +11,7 @@ use Rattle.task_core.specs.declared.open_call.OpenCall.{OpenCall as CodeCall}
 use Rattle.task_core.specs.Framed.{owed_user, stacked}
 use Rattle.task_core.specs.Opens.{latest}
 use Rattle.task_core.specs.States.{joined, plain_user, stack_in}
-use Rattle.task_core.specs.Tied.{AreTied}
+use Rattle.task_core.specs.StackInvariant.{StackInvariant}
 use Rattle.task_core.proofs.Stacks.{frames-level}
 
 -- ## calls and their frames
@@ -34,7 +34,7 @@ stacked-is o s e = by s.users
     by (Some users) = λ i. record { call = sym e i; users = Some (owed-back users i) }
 
 -- so are all of them
-pub stack-is : (shape : Shape) (number : TaskNo) (m : Moment) (os : List CodeCall) (ss : List StackedCall) → AreTied shape number m os ss
+pub stack-is : (shape : Shape) (number : TaskNo) (m : Moment) (os : List CodeCall) (ss : List StackedCall) → StackInvariant shape number m os ss
     → map stacked (stack_in os ss) ≡ ss
 stack-is shape number m [] [] k = refl
 stack-is shape number m [] (s ∷ ss) k = absurd k
@@ -56,18 +56,18 @@ back-is c bare o = by c.framed bare
 
 module _ (shape : Shape) (number : TaskNo) where
   -- the latest call's number
-  pub latest-top : (m : Moment) (os : List CodeCall) (ss : List StackedCall) → AreTied shape number m os ss → latest os ≡ top_of (stack_in os ss)
+  pub latest-top : (m : Moment) (os : List CodeCall) (ss : List StackedCall) → StackInvariant shape number m os ss → latest os ≡ top_of (stack_in os ss)
   latest-top m [] [] k = refl
   latest-top m [] (s ∷ ss) k = absurd k
   latest-top m (o ∷ os) [] k = absurd k
   latest-top m (o ∷ os) (s ∷ ss) k = refl
 
-  pub caller-top : (m : Moment) (os : List CodeCall) (ss : List StackedCall) → AreTied shape number m os ss → top_call ss ≡ top_of (stack_in os ss)
+  pub caller-top : (m : Moment) (os : List CodeCall) (ss : List StackedCall) → StackInvariant shape number m os ss → top_call ss ≡ top_of (stack_in os ss)
   caller-top m [] [] k = refl
   caller-top m [] (s ∷ ss) k = absurd k
   caller-top m (o ∷ os) [] k = absurd k
   caller-top m (o ∷ os) (s ∷ ss) k = ap Some k.0.call
 
   -- how many frames there are
-  pub frames-are : (m : Moment) (os : List CodeCall) (ss : List StackedCall) → AreTied shape number m os ss → frames_in ss ≡ level_of (stack_in os ss)
+  pub frames-are : (m : Moment) (os : List CodeCall) (ss : List StackedCall) → StackInvariant shape number m os ss → frames_in ss ≡ level_of (stack_in os ss)
   frames-are m os ss k = ap frames_in (sym (stack-is shape number m os ss k)) ∙ frames-level (stack_in os ss)

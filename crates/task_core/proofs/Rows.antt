@@ -20,7 +20,7 @@ use Rattle.task_core.specs.Opens.{no_call}
 use Rattle.task_core.specs.Setups.{setup_in}
 use Rattle.task_core.specs.States.{is_polling, mark_moment, moment_of, state_of, users_in}
 use Rattle.task_core.specs.TaskSteps.{after_mark, task_after}
-use Rattle.task_core.specs.Tied.{IsTaskOf}
+use Rattle.task_core.specs.StackInvariant.{IsTaskOf}
 use Rattle.task_core.proofs.RowCallbacks.{back-row}
 use Rattle.task_core.proofs.RowExits.{exit-end_row, exit-row, from-row}
 use Rattle.task_core.proofs.RowFinishes.{body-row, first-got, return-row}

@@ -7,15 +7,15 @@ use Rattle.word_machine.specs.Limits.{IsLimited}
 use Rattle.task_core.specs.declared.task.Task.{Task}
 use Rattle.task_core.specs.Setups.{setup_in}
 use Rattle.task_core.specs.States.{is_polling, state_of}
-use Rattle.task_core.specs.Steady.{HasCallRoom, IsSteady}
+use Rattle.task_core.specs.TaskInvariant.{HasCallRoom, TaskInvariant}
 use Rattle.task_core.specs.TaskSteps.{task_after}
-use Rattle.task_core.specs.Tied.{IsTaskOf}
-use Rattle.task_core.proofs.FitsUsers.{few-got}
-use Rattle.task_core.proofs.HeldGot.{held-got, raised-got}
+use Rattle.task_core.specs.StackInvariant.{IsTaskOf}
+use Rattle.task_core.proofs.FrameRoom.{few-got}
+use Rattle.task_core.proofs.GuardLaw.{held-got, raised-got}
 use Rattle.task_core.proofs.Rows.{step-is}
-use Rattle.task_core.proofs.SteadyGot.{room-got, steady-got}
-use Rattle.task_core.proofs.TiedKept.{IsSameTask, got-same}
-use Rattle.task_core.proofs.TiedLaw.{acts-same, frames-same, gone-got, levels-same, limits-same, moment-got, nested-same, number-same, tied-got}
+use Rattle.task_core.proofs.InvariantLaw.{room-got, invariant-got}
+use Rattle.task_core.proofs.TaskNumbers.{IsSameTask, got-same}
+use Rattle.task_core.proofs.StackLaw.{acts-same, frames-same, gone-got, levels-same, limits-same, moment-got, nested-same, number-same, stack-got}
 
 module _ (job : Job) (t : Task) (v : ℕ) (limited : IsLimited job) (k : IsTaskOf job t) (e : is_polling t.moment ≡ false)
     (takes : PresentTakes job (state_of t) (state_of t).moment v) where
@@ -31,8 +31,8 @@ module _ (job : Job) (t : Task) (v : ℕ) (limited : IsLimited job) (k : IsTaskO
       (subst (HasCallRoom (t.opens.limit - 2 * levels job)) (sym (step-is job t v limited k e))
       (room-got job (t.opens.limit - 2 * levels job) limited.job'.acts t.number.0 v (state_of t) k.steady k.room takes))
 
-  steady : IsSteady job (state_of after)
-  steady = subst (IsSteady job) (sym (step-is job t v limited k e)) (steady-got job limited.job'.acts t.number.0 v (state_of t) k.steady takes)
+  steady : TaskInvariant job (state_of after)
+  steady = subst (TaskInvariant job) (sym (step-is job t v limited k e)) (invariant-got job limited.job'.acts t.number.0 v (state_of t) k.steady takes)
 
   pub stays-of : IsTaskOf job after
   stays-of = record {
@@ -43,7 +43,7 @@ module _ (job : Job) (t : Task) (v : ℕ) (limited : IsLimited job) (k : IsTaskO
     limits = limits-same job t after k same;
     nested = nested-same job t after k same;
     room = room;
-    tied = tied-got job t k v;
+    tied = stack-got job t k v;
     moment = moment-got job t k v;
     levels' = levels-same job t after k same;
     held = held-got job (setup_in job) v t k e;

@@ -10,7 +10,7 @@ use Rattle.task_core.specs.declared.moment.Moment.{Moment}
 use Rattle.task_core.specs.declared.moment.Moment.TheVariants.{Polling, First}
 use Rattle.task_core.specs.declared.task.Task.{Task}
 use Rattle.task_core.specs.Leads.{is_quiet}
-use Rattle.task_core.specs.Steady.{StaysWithin}
+use Rattle.task_core.specs.TaskInvariant.{StaysWithin}
 use Rattle.task_core.specs.TaskOps.{present}
 
 -- a task before its first act, with room for so many calls and frames, and so many levels of each guard

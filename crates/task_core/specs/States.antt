@@ -14,7 +14,7 @@ use Rattle.task_core.specs.declared.moment.ToMark.TheVariants.{Refusing, Calling
 use Rattle.task_core.specs.declared.open_call.OpenCall.{OpenCall as CodeCall}
 use Rattle.task_core.specs.declared.task.Task.{Task}
 use Rattle.task_core.specs.Moments.{reading_at, walking_at}
-use Rattle.task_core.specs.Steady.{act_raised}
+use Rattle.task_core.specs.TaskInvariant.{act_raised}
 use Rattle.task_core.specs.TaskOps.{top}
 
 -- ## open calls

@@ -20,11 +20,11 @@ impl Model for Acts {
 
     ghost Value = { TaskActs };
 
-    ghost use Rattle.task_core.specs.KeptActs.{acts_of, IsKept};
+    ghost use Rattle.task_core.specs.ActsInvariant.{acts_of, ActsInvariant};
 
     ghost view = { acts_of };
 
-    ghost invariant = { IsKept };
+    ghost invariant = { ActsInvariant };
 }
 
 impl Acts {

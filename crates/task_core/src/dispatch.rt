@@ -12,7 +12,7 @@ ghost use Rattle.recursion_guard.specs.Guards.{IsHeld};
 ghost use Rattle.word_map.specs.Ops.{placed};
 ghost use Rattle.word_map.specs.Contents.{tramp_user};
 ghost use Rattle.word_map.specs.Instructions.{number_of};
-ghost use Rattle.task_core.specs.Fits.{CanRaise, FitsLoad, FitsMark, FitsWalk, HasCallRoom, HasFrameRoom, IsInCall, IsLoadThere, IsUser};
+ghost use Rattle.task_core.specs.TaskNeeds.{CanRaise, FitsLoad, FitsMark, FitsWalk, HasCallRoom, HasFrameRoom, IsInCall, IsLoadThere, IsUser};
 ghost use Rattle.task_core.specs.Opens.{latest};
 ghost use Rattle.task_core.specs.Setups.{declared_in};
 ghost use Rattle.task_core.specs.TaskOps.{item_of, load_op, next_call, top};

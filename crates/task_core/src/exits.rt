@@ -5,7 +5,7 @@ ghost use Rattle.std.specs.Prelude.{◌≡◌, ◌<◌, true, suc, IsSome};
 ghost use Rattle.ft_base.specs.declared.item.Item.TheVariants.{Body, Leave, Exit, ExitEnd, Ret};
 ghost use Rattle.ft_base.specs.declared.limits.TheConstants.{USERS};
 ghost use Rattle.return_stack.specs.Calls.{caller_of};
-ghost use Rattle.task_core.specs.Fits.{CanReturn, HasAct, IsInCall};
+ghost use Rattle.task_core.specs.TaskNeeds.{CanReturn, HasAct, IsInCall};
 ghost use Rattle.task_core.specs.TaskOps.{frame_user, owed, top};
 ghost use Rattle.task_core.specs.TaskSteps.{at, body_begun, exit_from, exit_stated, returned};
 

@@ -41,11 +41,11 @@ impl Model for OpenCalls {
 
     ghost Value = { Opens };
 
-    ghost use Rattle.task_core.specs.KeptOpens.{opens_of, IsKept};
+    ghost use Rattle.task_core.specs.OpenCallsInvariant.{opens_of, OpenCallsInvariant};
 
     ghost view = { opens_of };
 
-    ghost invariant = { IsKept };
+    ghost invariant = { OpenCallsInvariant };
 }
 
 impl OpenCalls {

@@ -28,7 +28,7 @@ impl Model for Setup {
 
     ghost Value = { PlainSetup };
 
-    ghost use Rattle.task_core.specs.KeptSetup.{setup_of};
+    ghost use Rattle.task_core.specs.SetupFields.{setup_of};
 
     ghost view = { setup_of };
 }

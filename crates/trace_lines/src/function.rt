@@ -3,7 +3,7 @@
 ghost use Rattle.std.specs.Prelude.{◌≡◌};
 ghost use Rattle.ft_io.specs.Pieces.{Puts};
 ghost use Rattle.trace_views.specs.FunctionText.{context_letter};
-ghost use Rattle.trace_views.specs.KeptCalls.{parent_name, line_front, line_call, function_line_text};
+ghost use Rattle.trace_views.specs.OpenCalls.{parent_name, line_front, line_call, function_line_text};
 
 use crate::columns::{put_right, put_three_digits};
 use crate::lines::Line;

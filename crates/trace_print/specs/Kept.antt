@@ -3,7 +3,7 @@ use Rattle.std.specs.Prelude.{◌≡◌, ◌<◌, List, reverse}
 use Rattle.ft_base.specs.declared.item.Item.{Item}
 use Rattle.ft_base.specs.Job.{Job}
 use Rattle.ft_hist.specs.Past.{done}
-use Rattle.ft_machine.specs.Kept.{past_in}
+use Rattle.ft_machine.specs.MachineStates.{past_in}
 use Rattle.ft_words.specs.declared.order.Form.{Form}
 use Rattle.ft_words.specs.declared.order.Form.TheVariants as forms
 use Rattle.trace_views.specs.Counted.{AreTotals}

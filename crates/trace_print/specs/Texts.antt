@@ -9,7 +9,7 @@ use Rattle.trace_print.specs.declared.forms.Lines.TheVariants as lines
 use Rattle.trace_views.specs.Words.{lines_text}
 use Rattle.trace_views.specs.LogText.{log_text, log_lines}
 use Rattle.trace_views.specs.FunctionText.{function_text}
-use Rattle.trace_views.specs.KeptCalls.{function_line_text}
+use Rattle.trace_views.specs.OpenCalls.{function_line_text}
 use Rattle.trace_views.specs.GraphText.{graph_text}
 use Rattle.trace_views.specs.GraphLines.{graph_line_text}
 use Rattle.trace_views.specs.ProfileText.{profile_text, profile_line_text}

@@ -2,7 +2,7 @@
 
 ghost use Rattle.std.specs.Prelude.{◌≡◌, ◌<◌, get_or, length, map, IfOk};
 ghost use Rattle.ft_base.specs.Job.{no_task};
-ghost use Rattle.filter_commands.specs.Kept.{plain_trigger};
+ghost use Rattle.filter_commands.specs.Meanings.{plain_trigger};
 ghost use Rattle.user_specs.specs.Plain.{spec_of};
 ghost use Rattle.ring_rules.specs.Plan.{plan_of};
 ghost use Rattle.ft_base.specs.Kinds.{is_function};

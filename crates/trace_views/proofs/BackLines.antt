@@ -15,12 +15,12 @@ use Rattle.ft_base.specs.declared.item.Item.TheVariants.{Back}
 use Rattle.ft_base.specs.Items.{kind_of}
 use Rattle.ft_base.specs.Job.{Job}
 use Rattle.ft_base.proofs.Small.{Each-weaker, Each-snoc, false_true}
-use Rattle.ft_hist.proofs.ToldExits.{each-of}
+use Rattle.ft_hist.proofs.ExitItems.{each-of}
 use Rattle.ring_rules.specs.Fold.{Rings}
 use Rattle.ring_rules.proofs.Lists.{get-some}
 use Rattle.trace_views.specs.declared.function.FunctionLine.{FunctionLine}
 use Rattle.trace_views.specs.ItemCounts.{is_back}
-use Rattle.trace_views.specs.KeptCalls.{function_line_text}
+use Rattle.trace_views.specs.OpenCalls.{function_line_text}
 use Rattle.trace_views.specs.RingLines.{AreBackLines, HasEntries, HasLine, HaveTexts, IsLineAt, is_back_at}
 use Rattle.trace_views.specs.RingsText.{entry_text}
 use Rattle.trace_views.proofs.FunctionLines.{entry-shown}

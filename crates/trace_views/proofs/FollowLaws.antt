@@ -23,10 +23,10 @@ use Rattle.history_laws.specs.Bound.{calls_of}
 use Rattle.history_laws.proofs.Stacks.{stack-bounded}
 use Rattle.trace_views.specs.declared.open_calls.OpenCall.{OpenCall}
 use Rattle.trace_views.specs.declared.open_calls.OpenCalls.{OpenCalls}
-use Rattle.trace_views.specs.KeptCalls.{HasOpenCalls, IsFollowed, kept_call, rooms_in, stacks_in}
+use Rattle.trace_views.specs.OpenCalls.{HasOpenCalls, IsFollowed, open_call_of, rooms_in, stacks_in}
 use Rattle.trace_views.specs.TaskStacks.{stack_at, with_top}
 use Rattle.trace_views.proofs.ItemTexts.{legal-at, past-next}
-use Rattle.trace_views.proofs.KeptLaws.{told-enter, told-body, told-ret, top-at-body, top-at-back, top-at-exit}
+use Rattle.trace_views.proofs.OpenCallLaws.{told-enter, told-body, told-ret, top-at-body, top-at-back, top-at-exit}
 use Rattle.trace_views.proofs.StackSteps.{changed, read, reverse-push}
 use Rattle.trace_views.proofs.TopCalls.{named, put}
 
@@ -52,7 +52,7 @@ module _ (job : Job) (past : List Item) (o : OpenCalls) (told : IsFollowed job p
         let now = stack-bounded job (Enter call ctx f caller ∷ past) call.task.0 l in
         let one = ap (λ (cs : List CallNo). length cs) (put job call ctx f caller past l) in
         let kept : length v.items ≡ length (open_calls call.task.0 past) =
-        sym (length-reverse v.items) ∙ ap (λ (os : List OpenCall). length os) (stack-is ∙ told.stacks.calls t) ∙ length-map (open_calls t past) (kept_call past) ∙ ap (λ n. length (open_calls n past)) (sym own) in
+        sym (length-reverse v.items) ∙ ap (λ (os : List OpenCall). length os) (stack-is ∙ told.stacks.calls t) ∙ length-map (open_calls t past) (open_call_of past) ∙ ap (λ n. length (open_calls n past)) (sym own) in
         let room = told.rooms t (omega (arith, lt, many)) in
         let same : calls_of job call.task.0 ≡ calls_of job t = ap (calls_of job) own in
         omega (arith, now, one, kept, room, same, room-is)
@@ -80,7 +80,7 @@ module _ (job : Job) (past : List Item) (o : OpenCalls) (told : IsFollowed job p
         (told-enter job past (stacks_in o) told.stacks call ctx f caller l') o' new)
 
     pub body-top : (call : CallNo) (g : FuncNo) (ran : Ran) → item ≡ Body call g ran → IsLegalPast job (item ∷ past)
-        → (v : Vec OpenCall) → v ≡ get_or o.tasks.items call.task.0 v → slice_get (reverse v.items) 0 ≡ Some (kept_call past call)
+        → (v : Vec OpenCall) → v ≡ get_or o.tasks.items call.task.0 v → slice_get (reverse v.items) 0 ≡ Some (open_call_of past call)
     body-top call g ran is l v here =
         let l' : IsLegalPast job (Body call g ran ∷ past) = subst (λ (x : Item). IsLegalPast job (x ∷ past)) is l in
         let lt = has-list call.task.0 (Body call g ran) (==-refl call.task.0) l' in
@@ -115,10 +115,10 @@ list-of o t v some here = elim (cases_lt t (length (stacks_in o))) [
 
 module _ (job : Job) (past : List Item) (o : OpenCalls) (told : IsFollowed job past o) where
   -- at a callback the call is the top one
-  pub back-open : (call : CallNo) (u : UserNo) → IsLegalPast job (Back call u ∷ past) → slice_get (stack_at (stacks_in o) call.task.0) 0 ≡ Some (kept_call past call)
+  pub back-open : (call : CallNo) (u : UserNo) → IsLegalPast job (Back call u ∷ past) → slice_get (stack_at (stacks_in o) call.task.0) 0 ≡ Some (open_call_of past call)
   back-open call u l = top-at-back job past (stacks_in o) told.stacks call u l
 
-  pub exit-open : (call : CallNo) (u : UserNo) (entry : ℕ) → IsLegalPast job (Exit call u entry ∷ past) → slice_get (stack_at (stacks_in o) call.task.0) 0 ≡ Some (kept_call past call)
+  pub exit-open : (call : CallNo) (u : UserNo) (entry : ℕ) → IsLegalPast job (Exit call u entry ∷ past) → slice_get (stack_at (stacks_in o) call.task.0) 0 ≡ Some (open_call_of past call)
   exit-open call u entry l = top-at-exit job past (stacks_in o) told.stacks call u entry l
 
 pub some-open : (stack : List OpenCall) (call : OpenCall) → slice_get stack 0 ≡ Some call → 0 < length stack

@@ -15,14 +15,14 @@ use Rattle.ft_hist.proofs.RunLaws.{some_inj}
 use Rattle.trace_views.specs.declared.function.FunctionLine.{FunctionLine}
 use Rattle.trace_views.specs.declared.open_calls.OpenCall.{OpenCall}
 use Rattle.trace_views.specs.FunctionText.{function_line, parent_word}
-use Rattle.trace_views.specs.KeptCalls.{kept_call, runs, parent_of, parent_name, function_line_text, HasOpenCalls}
+use Rattle.trace_views.specs.OpenCalls.{open_call_of, runs, parent_of, parent_name, function_line_text, HasOpenCalls}
 use Rattle.ft_hist.specs.Telling.{past_at}
 use Rattle.trace_views.specs.RingLines.{IsLineAt}
 use Rattle.trace_views.specs.RingsText.{entry_part, entry_text}
 use Rattle.trace_views.specs.TaskStacks.{stack_at}
 use Rattle.ft_hist.proofs.Splitting.{length-past}
 use Rattle.trace_views.proofs.ItemTexts.{legal-at, part-is}
-use Rattle.trace_views.proofs.KeptLaws.{top-at-back, below-at-back, parent-is}
+use Rattle.trace_views.proofs.OpenCallLaws.{top-at-back, below-at-back, parent-is}
 
 -- the line of an entry callback at a place, in the latest call of a task
 abbrev pub line_of : ℕ → TaskNo → OpenCall → Option FuncNo → UserNo → FunctionLine
@@ -30,7 +30,7 @@ line_of place task call parent u = record { place = place; task = task; ctx = ca
 
 -- it is the line of the specs
 pub line-is : (job : Job) (past : List Item) (call : CallNo) (u : UserNo) (parent : Option FuncNo) → parent_name job parent ≡ parent_word job past (entry_of call past).caller
-    → function_line_text job (line_of (length past) call.task (kept_call past call) parent u) ≡ function_line job past call u.0
+    → function_line_text job (line_of (length past) call.task (open_call_of past call) parent u) ≡ function_line job past call u.0
 unfolding function_line_text function_line
 line-is job past call u parent e = rw e (simp append_assoc)
 
@@ -40,11 +40,11 @@ module _ (job : Job) (past : List Item) (call : CallNo) (u : UserNo) (stacks : L
       → (parent : Option FuncNo) → parent ≡ parent_of (stack_at stacks call.task.0)
       → (place : ℕ) → place ≡ length past → function_line_text job (line_of place call.task top parent u) ≡ function_line job past call u.0
   back-line top top_is parent parent_is place long =
-      let kept : top ≡ kept_call past call = some_inj top (kept_call past call) (sym top_is ∙ top-at-back job past stacks told call u l) in
+      let kept : top ≡ open_call_of past call = some_inj top (open_call_of past call) (sym top_is ∙ top-at-back job past stacks told call u l) in
       let word : parent_name job parent ≡ parent_word job past (entry_of call past).caller =
       ap (parent_name job) (parent_is ∙ ap (λ (o : Option OpenCall). option_map runs o) (below-at-back job past stacks told call u l)) ∙ parent-is job past (entry_of call past).caller in
       ap (λ (o : OpenCall). function_line_text job (line_of place call.task o parent u)) kept
-      ∙ ap (λ (q : ℕ). function_line_text job (line_of q call.task (kept_call past call) parent u)) long
+      ∙ ap (λ (q : ℕ). function_line_text job (line_of q call.task (open_call_of past call) parent u)) long
       ∙ line-is job past call u parent word
 
 -- at a place of a history

@@ -12,7 +12,7 @@ use Rattle.trace_views.specs.declared.function.FunctionLine.{FunctionLine}
 use Rattle.trace_views.specs.declared.function.FunctionView.{FunctionView}
 use Rattle.trace_views.specs.FunctionText.{function_line, function_part}
 use Rattle.trace_views.specs.FunctionViews.{HasFunction}
-use Rattle.trace_views.specs.KeptCalls.{IsFollowed, function_line_text}
+use Rattle.trace_views.specs.OpenCalls.{IsFollowed, function_line_text}
 use Rattle.trace_views.specs.Words.{lines_text}
 use Rattle.trace_views.proofs.ItemTexts.{texts-next}
 use Rattle.trace_views.proofs.LineTexts.{line-after}

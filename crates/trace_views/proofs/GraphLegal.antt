@@ -9,7 +9,7 @@ use Rattle.ft_base.specs.Job.{Job}
 use Rattle.ft_base.proofs.Small.{==-refl}
 use Rattle.ft_hist.specs.Rules.{IsLegal, IsLegalPast}
 use Rattle.ft_hist.specs.Telling.{open_calls}
-use Rattle.ft_hist.proofs.ToldExits.{exit-of}
+use Rattle.ft_hist.proofs.ExitItems.{exit-of}
 use Rattle.trace_views.specs.GraphWalks.{Goes}
 use Rattle.trace_views.proofs.TopCalls.{named, fresh, taken, top-back, top-exit}
 

@@ -5,7 +5,7 @@ use Rattle.std.proofs.lemmas.List.{drop_all, reverse-append, reverse-reverse, ta
 use Rattle.ft_base.specs.declared.item.Item.{Item}
 use Rattle.ft_base.specs.Job.{Job}
 use Rattle.ft_hist.specs.Rules.{IsLegal, IsLegalPast}
-use Rattle.ft_hist.proofs.Told.{legal-to}
+use Rattle.ft_hist.proofs.ItemOrders.{legal-to}
 use Rattle.trace_views.specs.Words.{item_texts}
 use Rattle.ft_hist.specs.Telling.{past_at}
 use Rattle.trace_views.specs.Places.{part_at}

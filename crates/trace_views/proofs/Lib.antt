@@ -5,7 +5,7 @@ pub mod EnabledLines
 pub mod ReturnedLaws
 pub mod TopCalls
 pub mod ItemTexts
-pub mod KeptLaws
+pub mod OpenCallLaws
 pub mod FollowLaws
 pub mod FunctionLines
 pub mod Results

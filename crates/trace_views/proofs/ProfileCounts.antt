@@ -16,7 +16,7 @@ use Rattle.func_profile.proofs.TallyLemmas.{hit-room, time-room}
 use Rattle.trace_views.specs.declared.open_calls.OpenCall.{OpenCall}
 use Rattle.trace_views.specs.declared.profile.ProfileView.{ProfileView}
 use Rattle.trace_views.specs.declared.profile.UserTally.{UserTally}
-use Rattle.trace_views.specs.KeptCalls.{kept_call, stacks_in}
+use Rattle.trace_views.specs.OpenCalls.{open_call_of, stacks_in}
 use Rattle.trace_views.specs.ProfileViews.{AreUserTallies, HasProfile, IsMissOf, IsUserTally, rows_for}
 use Rattle.trace_views.specs.TaskStacks.{stack_at}
 use Rattle.trace_views.proofs.FollowLaws.{back-open, exit-open}
@@ -30,11 +30,11 @@ module _ (job : Job) (past : List Item) (view : ProfileView) (told : HasProfile 
   -- ## an entry callback
 
   module _ (call : CallNo) (v : UserNo) (is : item ≡ Back call v) where
-    pub back-top : slice_get (stack_at (stacks_in view.open) call.task.0) 0 ≡ Some (kept_call past call)
+    pub back-top : slice_get (stack_at (stacks_in view.open) call.task.0) 0 ≡ Some (open_call_of past call)
     back-top = back-open job past view.open told.calls call v (legal-as (Back call v) is)
 
     func-is : (top : OpenCall) → slice_get (stack_at (stacks_in view.open) call.task.0) 0 ≡ Some top → (entry_of call past).func ≡ top.func.0
-    func-is top e = ap (λ (o : OpenCall). o.func.0) (some_inj (kept_call past call) top (sym back-top ∙ e))
+    func-is top e = ap (λ (o : OpenCall). o.func.0) (some_inj (open_call_of past call) top (sym back-top ∙ e))
 
     others : (u : ℕ) (s : UserTally) → v.0 ≢ u → IsUserTally job past u s → IsUserTally job (item ∷ past) u s
     others u s ne h = subst (λ (x : Item). IsUserTally job (x ∷ past) u s) (sym is) (other-back job past u s h call v ne)
@@ -52,14 +52,14 @@ module _ (job : Job) (past : List Item) (view : ProfileView) (told : HasProfile 
   -- ## an exit callback
 
   module _ (call : CallNo) (v : UserNo) (entry : ℕ) (is : item ≡ Exit call v entry) where
-    pub exit-top : slice_get (stack_at (stacks_in view.open) call.task.0) 0 ≡ Some (kept_call past call)
+    pub exit-top : slice_get (stack_at (stacks_in view.open) call.task.0) 0 ≡ Some (open_call_of past call)
     exit-top = exit-open job past view.open told.calls call v entry (legal-as (Exit call v entry) is)
 
     pub exit-after : entry < view.place
     exit-after = let lt = exit-later job call v entry past (legal-as (Exit call v entry) is) in let p = told.place' in omega (arith, lt, p)
 
     exit-func : (top : OpenCall) → slice_get (stack_at (stacks_in view.open) call.task.0) 0 ≡ Some top → (entry_of call past).func ≡ top.func.0
-    exit-func top e = ap (λ (o : OpenCall). o.func.0) (some_inj (kept_call past call) top (sym exit-top ∙ e))
+    exit-func top e = ap (λ (o : OpenCall). o.func.0) (some_inj (open_call_of past call) top (sym exit-top ∙ e))
 
     exit-others : (u : ℕ) (s : UserTally) → v.0 ≢ u → IsUserTally job past u s → IsUserTally job (item ∷ past) u s
     exit-others u s ne h = subst (λ (x : Item). IsUserTally job (x ∷ past) u s) (sym is) (other-exit job past u s h call v entry ne)

@@ -14,7 +14,7 @@ use Rattle.ring_rules.proofs.FoldSteps.{fold-few}
 use Rattle.ring_rules.proofs.Numbers.{lt-or-le}
 use Rattle.trace_views.specs.declared.function.FunctionLine.{FunctionLine}
 use Rattle.trace_views.specs.declared.ring_view.RingsView.{RingsView}
-use Rattle.trace_views.specs.KeptCalls.{IsFollowed, function_line_text}
+use Rattle.trace_views.specs.OpenCalls.{IsFollowed, function_line_text}
 use Rattle.trace_views.specs.RingLines.{IsLineAt}
 use Rattle.trace_views.specs.LineRings.{LineBox, empty_lines, kept_text, ring_of}
 use Rattle.trace_views.specs.RingViews.{HasRings, IsFiredBy, IsRingAfter, IsSwitchOf}

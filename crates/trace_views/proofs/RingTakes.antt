@@ -22,7 +22,7 @@ use Rattle.trace_views.specs.declared.function.FunctionLine.{FunctionLine}
 use Rattle.trace_views.specs.declared.ring_view.RingsView.{RingsView}
 use Rattle.trace_views.specs.declared.switch.Switch.{Switch}
 use Rattle.trace_views.specs.FunctionText.{function_line}
-use Rattle.trace_views.specs.KeptCalls.{IsFollowed, function_line_text}
+use Rattle.trace_views.specs.OpenCalls.{IsFollowed, function_line_text}
 use Rattle.trace_views.specs.RingLines.{IsLineAt}
 use Rattle.trace_views.specs.LineRings.{LineBox, empty_lines, ring_of, with_line}
 use Rattle.trace_views.specs.RingViews.{HasRings, IsRingAfter, IsSwitchOf, so_far}

@@ -20,7 +20,7 @@ use Rattle.ft_hist.specs.Past.{is_of, is_open, calls, entry_of, Entered}
 use Rattle.ft_hist.specs.Plain.{plain, PlainTask}
 use Rattle.ft_hist.specs.Rules.{IsLegalPast}
 use Rattle.ft_hist.specs.Telling.{open_calls}
-use Rattle.ft_hist.proofs.HeldLaws.{Falls, opens, not_same}
+use Rattle.ft_hist.proofs.FrameCounts.{Falls, opens, not_same}
 use Rattle.ft_hist.proofs.Laws.{entry_of-enter}
 use Rattle.ft_hist.proofs.WindowLaws.{is_enter, entry_of-more}
 use Rattle.ft_hist.proofs.Nesting.{top_of, entering}

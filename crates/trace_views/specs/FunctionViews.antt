@@ -6,7 +6,7 @@ use Rattle.ft_base.specs.Job.{Job}
 use Rattle.ft_base.specs.Kinds.{is_function}
 use Rattle.trace_views.specs.declared.function.FunctionView.{FunctionView}
 use Rattle.trace_views.specs.FunctionText.{function_part}
-use Rattle.trace_views.specs.KeptCalls.{IsFollowed, function_line_text}
+use Rattle.trace_views.specs.OpenCalls.{IsFollowed, function_line_text}
 use Rattle.trace_views.specs.Words.{item_texts, lines_text}
 
 -- The view has taken these items of a job, the latest first.

@@ -4,7 +4,7 @@ pub mod Places
 pub mod TaskStacks
 pub mod ByTask
 pub mod Leaves
-pub mod KeptCalls
+pub mod OpenCalls
 pub mod GraphWalks
 pub mod GraphLines
 pub mod GraphText

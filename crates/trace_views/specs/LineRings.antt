@@ -4,7 +4,7 @@ use Rattle.ft_base.specs.Job.{Job}
 use Rattle.circular_buffer.specs.Buffer.{keep_last}
 use Rattle.ring_rules.specs.Fold.{Ring}
 use Rattle.trace_views.specs.declared.function.FunctionLine.{FunctionLine}
-use Rattle.trace_views.specs.KeptCalls.{function_line_text}
+use Rattle.trace_views.specs.OpenCalls.{function_line_text}
 use Rattle.trace_views.specs.RingsText.{cpu_line}
 use Rattle.trace_views.specs.Words.{lines_text}
 

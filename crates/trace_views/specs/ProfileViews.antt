@@ -9,7 +9,7 @@ use Rattle.ft_hist.specs.Counts.{backs_of, missed_by}
 use Rattle.func_profile.specs.Tallies.{IsTable}
 use Rattle.trace_views.specs.declared.profile.ProfileView.{ProfileView}
 use Rattle.trace_views.specs.declared.profile.UserTally.{UserTally}
-use Rattle.trace_views.specs.KeptCalls.{IsFollowed}
+use Rattle.trace_views.specs.OpenCalls.{IsFollowed}
 use Rattle.trace_views.specs.Words.{is_profile}
 
 -- how many functions have a row for a user: all if it is a profile user

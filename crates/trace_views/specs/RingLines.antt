@@ -14,7 +14,7 @@ use Rattle.trace_views.specs.declared.rings.RingsLine.{RingsLine}
 use Rattle.trace_views.specs.declared.rings.RingsLine.TheVariants.{Cpu, Entry, Trigger}
 use Rattle.trace_views.specs.FunctionText.{function_line}
 use Rattle.trace_views.specs.ItemCounts.{is_back}
-use Rattle.trace_views.specs.KeptCalls.{function_line_text}
+use Rattle.trace_views.specs.OpenCalls.{function_line_text}
 use Rattle.trace_views.specs.RingsText.{cpu_line, trigger_line, entry_text}
 
 -- whether an item, if there is one, is an entry callback

@@ -9,7 +9,7 @@ use Rattle.ring_rules.specs.Legal.{fired_at}
 use Rattle.ring_rules.specs.Plan.{TracePlan, plan_of}
 use Rattle.trace_views.specs.declared.ring_view.RingsView.{RingsView}
 use Rattle.trace_views.specs.declared.switch.Switch.{Switch}
-use Rattle.trace_views.specs.KeptCalls.{IsFollowed}
+use Rattle.trace_views.specs.OpenCalls.{IsFollowed}
 use Rattle.trace_views.specs.LineRings.{LineBox, ring_of}
 use Rattle.trace_views.specs.RingLines.{IsLineAt}
 

@@ -9,7 +9,7 @@ ghost use Rattle.ft_base.specs.Kinds.{is_function};
 ghost use Rattle.ft_hist.specs.Rules.{IsLegal, IsLegalPast};
 ghost use Rattle.ft_hist.specs.Telling.{past_at};
 ghost use Rattle.trace_views.specs.FunctionText.{function_line, function_part};
-ghost use Rattle.trace_views.specs.KeptCalls.{IsFollowed, function_line_text};
+ghost use Rattle.trace_views.specs.OpenCalls.{IsFollowed, function_line_text};
 ghost use Rattle.trace_views.specs.RingLines.{AreBackLines};
 ghost use Rattle.trace_views.specs.Words.{item_texts, lines_text};
 

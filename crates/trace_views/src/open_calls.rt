@@ -4,7 +4,7 @@ ghost use Rattle.std.specs.Prelude.{◌≡◌, ◌<◌, [], ◌∷◌, Some, Lis
 ghost use Rattle.ft_base.specs.declared.item.Item.{Item};
 ghost use Rattle.ft_base.specs.Job.{Job as PlainJob};
 ghost use Rattle.ft_hist.specs.Rules.{IsLegalPast};
-ghost use Rattle.trace_views.specs.KeptCalls.{IsFollowed, parent_of, runs, stacks_in};
+ghost use Rattle.trace_views.specs.OpenCalls.{IsFollowed, parent_of, runs, stacks_in};
 ghost use Rattle.trace_views.specs.TaskStacks.{stack_at};
 
 use crate::named::Named;

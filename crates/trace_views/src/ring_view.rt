@@ -8,7 +8,7 @@ ghost use Rattle.ft_hist.specs.Rules.{IsLegalPast};
 ghost use Rattle.ring_rules.specs.Fold.{cpu_of_call, fold};
 ghost use Rattle.ring_rules.specs.Hits.{is_traced};
 ghost use Rattle.ring_rules.specs.Plan.{plan_of};
-ghost use Rattle.trace_views.specs.KeptCalls.{IsFollowed};
+ghost use Rattle.trace_views.specs.OpenCalls.{IsFollowed};
 ghost use Rattle.trace_views.specs.RingLines.{IsLineAt, rings_line_text};
 ghost use Rattle.trace_views.specs.LineRings.{empty_lines, kept_text, with_line};
 ghost use Rattle.trace_views.specs.RingViews.{IsFiredBy};

@@ -29,13 +29,13 @@ use Rattle.word_machine.specs.UserList.{since_of, list_desk, PushedAt, UserList}
 use Rattle.word_machine.specs.HashCopies.{SelIs, stored_last, WrittenAt, HashCopies}
 use Rattle.word_machine.specs.Trampolines.{HasSlot, TrampolinesHeld, PidsAndDepth}
 use Rattle.word_machine.specs.Rule.{MachineRule}
-use Rattle.word_machine_laws.proofs.Carried.{cpu_carried}
+use Rattle.word_machine_laws.proofs.OtherItems.{cpu_carried}
 use Rattle.word_machine_laws.proofs.DeskChanges.{SubjectBy, between}
 use Rattle.word_machine.proofs.Small.{if_case}
 use Rattle.word_machine_laws.proofs.Sites.{Fetches, Passed, passed_same}
-use Rattle.word_machine_laws.proofs.Goes.{Goes, cpu_goes}
+use Rattle.word_machine_laws.proofs.ControlEffects.{ControlEffect, cpu_goes}
 use Rattle.word_machine_laws.proofs.NoSwitch.{world, hereby, lines_on, under_on}
-use Rattle.word_machine_laws.proofs.DeskKept.{others_same, none_changes, rest_same, order_flips, IsSteady}
+use Rattle.word_machine_laws.proofs.CommandDesks.{others_same, none_changes, rest_same, order_flips, StaysEnabled}
 use Rattle.word_machine_laws.proofs.TrampRows.{first_copy}
 use Rattle.word_machine_laws.proofs.Room.{HasRoomFor}
 use Rattle.ft_hist.proofs.ItemParts.{may_follow, of_begin}
@@ -163,7 +163,7 @@ module _ (job : Job) (ok : IsWellFormed job) (d : ℕ) where
         by_depth true e = k.level ∙ sym ((between job ok d).level (b.depth e))
 
     goes_begin : (base : ℕ) (order : List ℕ) (copies link : ℕ → ℕ) (bits : ℕ → ℕ → ℕ → ℕ → ℕ) (ack q : ℕ) → Fetches job ack d Line base d p' base
-        → Goes job (hereby d Line base request order copies link bits) (hereby d p' base request order copies link bits) ack q
+        → ControlEffect job (hereby d Line base request order copies link bits) (hereby d p' base request order copies link bits) ack q
     goes_begin base order copies link bits ack q fetch = record {
       later = omega arith;
       fetch = fetch;
@@ -176,12 +176,12 @@ module _ (job : Job) (ok : IsWellFormed job) (d : ℕ) where
       depth = λ Q s. by_depth Q s (depth_stored p') refl;
     }
       where
-        by_user : (u : ℕ) (R : UserState → Type 0) → IsSteady R → R (state_of job d u) → (x : Bool) → selected p' ≡ x
+        by_user : (u : ℕ) (R : UserState → Type 0) → StaysEnabled R → R (state_of job d u) → (x : Bool) → selected p' ≡ x
             → SeenAt x (effect job d) p' request q (R (state_of job d u)) (R (state_of job (suc d) u))
         by_user u R steady s false e = s
         by_user u R steady s true e = inl (subst R (sym ((states_same (b.user e) u).0 (steady (state_of job d u) s).0)) s)
 
-        by_read : (u copy : ℕ) (R : UserState → (ℕ → ℕ → ℕ) → Type 0) → ((y : ℕ → ℕ → ℕ) → IsSteady (λ s. R s y))
+        by_read : (u copy : ℕ) (R : UserState → (ℕ → ℕ → ℕ) → Type 0) → ((y : ℕ → ℕ → ℕ) → StaysEnabled (λ s. R s y))
             → (false ≡ false → copy ≡ copies u) × R (state_of job d u) (bits u copy) → (x : Bool) → selected p' ≡ x
             → SeenAt x (effect job d) p' request q ((x ≡ false → copy ≡ copies u) × R (state_of job d u) (bits u copy))
             ((copy ≡ copies u) × R (state_of job (suc d) u) (bits u copy))

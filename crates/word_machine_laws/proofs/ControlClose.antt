@@ -24,13 +24,13 @@ use Rattle.word_machine.specs.UserList.{since_of}
 use Rattle.word_machine.specs.Trampolines.{HasSlot, TrampolinesHeld}
 use Rattle.word_machine.specs.Tasks.{TaskRule, callbacks_at}
 use Rattle.word_machine.specs.Rule.{MachineRule, ControlLines, UnderAt, IsWordJob, task_in}
-use Rattle.word_machine_laws.proofs.Carried.{cpu_carried}
+use Rattle.word_machine_laws.proofs.OtherItems.{cpu_carried}
 use Rattle.word_machine_laws.proofs.DeskChanges.{SubjectBy, between}
-use Rattle.word_machine_laws.proofs.Seen.{seen_close}
+use Rattle.word_machine_laws.proofs.VerdictLaws.{seen_close}
 use Rattle.word_machine_laws.proofs.Sites.{Fetches, Passed, passed_close}
-use Rattle.word_machine_laws.proofs.Goes.{Goes, cpu_goes}
+use Rattle.word_machine_laws.proofs.ControlEffects.{ControlEffect, cpu_goes}
 use Rattle.word_machine_laws.proofs.NoSwitch.{world, hereby}
-use Rattle.word_machine_laws.proofs.DeskKept.{others_same}
+use Rattle.word_machine_laws.proofs.CommandDesks.{others_same}
 use Rattle.word_machine_laws.proofs.NoneCalled.{none_called}
 use Rattle.word_machine_laws.proofs.Effects.{passed_of}
 use Rattle.ft_hist.proofs.OpenCallbacks.{of_user, there_of, by_task, stranger_none}
@@ -42,7 +42,7 @@ use Rattle.ft_hist.proofs.ItemParts.{may_follow, of_return}
 
 module _ (job : Job) (d base base' request : ℕ) (order : List ℕ) (copies link : ℕ → ℕ) (bits : ℕ → ℕ → ℕ → ℕ → ℕ) where
   goes_close : (ack q : ℕ) → (waits (effect job d) ≡ true → request ≤ q) → Fetches job ack d Close base (suc d) Line base'
-      → Goes job (hereby d Close base request order copies link bits) (hereby (suc d) Line base' request order copies link bits) ack q
+      → ControlEffect job (hereby d Close base request order copies link bits) (hereby (suc d) Line base' request order copies link bits) ack q
   goes_close ack q passed fetch = record {
     later = omega arith;
     fetch = fetch;

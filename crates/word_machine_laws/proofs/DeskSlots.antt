@@ -11,7 +11,7 @@ use Rattle.word_machine.specs.Commands.{Effect, Adds, Removes, Edits, Enables, D
 use Rattle.word_machine.specs.Trampolines.{HasSlot}
 use Rattle.word_machine_laws.proofs.DeskChanges.{SubjectBy, between}
 use Rattle.word_machine.proofs.Small.{lowest_case, lowest_passes, any_get}
-use Rattle.word_machine_laws.proofs.DeskKept.{others_same}
+use Rattle.word_machine_laws.proofs.CommandDesks.{others_same}
 use Rattle.word_machine_laws.proofs.DeskStart.{none_at_start}
 use Rattle.std.proofs.lemmas.List.{get_or_past}
 use Rattle.ft_base.proofs.DeskLaws.{length-desk}

@@ -1,23 +1,23 @@
 -- general laws
 pub mod Effects
 pub mod Contents
-pub mod Told
+pub mod PollWords
 -- what commands do to a desk: by their effects, and by what they store
 pub mod DeskStart
 pub mod DeskChanges
 pub mod DeskNumbers
-pub mod DeskKept
+pub mod CommandDesks
 pub mod DeskSlots
 -- room in the clock, and the rule at the start
 pub mod Room
 pub mod TasksOf
 pub mod Start
 -- what a row does to what tasks know: a store, an item, a move of a batch, a stage of a site, a row of control
-pub mod Seen
-pub mod Carried
+pub mod VerdictLaws
+pub mod OtherItems
 pub mod Batches
 pub mod Sites
-pub mod Goes
+pub mod ControlEffects
 pub mod NoSwitch
 -- control's rows in a command: sites, list, copies, trampolines, traced tasks and depth
 pub mod SiteSyncs
@@ -66,7 +66,7 @@ pub mod Ends
 pub mod Lengths
 pub mod Marked
 pub mod Settled
-pub mod Fits
+pub mod DispatchValues
 pub mod OpenCalls
 pub mod Takes
 pub mod Never

@@ -16,14 +16,14 @@ use Rattle.word_machine.specs.Progress.{is_lists, is_levels}
 use Rattle.word_machine.specs.Trampolines.{PidsAndDepth}
 use Rattle.word_machine.specs.Rule.{MachineRule}
 use Rattle.word_machine_laws.proofs.Sites.{Fetches, passed_same}
-use Rattle.word_machine_laws.proofs.Goes.{Goes}
+use Rattle.word_machine_laws.proofs.ControlEffects.{ControlEffect}
 use Rattle.word_machine_laws.proofs.NoSwitch.{world, hereby, seen_on, read_still, walk_still, tramps_before, listed_on, sets_on, row_kept}
-use Rattle.word_machine_laws.proofs.DeskKept.{none_changes}
+use Rattle.word_machine_laws.proofs.CommandDesks.{none_changes}
 use Rattle.word_machine_laws.proofs.Effects.{what_waits_pids, what_waits_depth}
 
 goes_pids : (job : Job) (d base request : ℕ) (order : List ℕ) (copies link : ℕ → ℕ) (bits : ℕ → ℕ → ℕ → ℕ → ℕ) → is_lists (effect job d) ≡ true → (ack q : ℕ)
     → Fetches job ack d StorePids base d (Ask Tasks) base
-    → Goes job (hereby d StorePids base request order copies link bits) (hereby d (Ask Tasks) base request order copies link bits) ack q
+    → ControlEffect job (hereby d StorePids base request order copies link bits) (hereby d (Ask Tasks) base request order copies link bits) ack q
 goes_pids job d base request order copies link bits fit ack q fetch = record {
   later = omega arith;
   fetch = fetch;
@@ -55,7 +55,7 @@ pids_keeps job ok ws d remaining request copies order cpus past k =
 
 goes_depth : (job : Job) (d base request : ℕ) (order : List ℕ) (copies link : ℕ → ℕ) (bits : ℕ → ℕ → ℕ → ℕ → ℕ) → is_levels (effect job d) ≡ true
     → (ack q : ℕ) → Fetches job ack d StoreDepth base d (Ask Tasks) base
-    → Goes job (hereby d StoreDepth base request order copies link bits) (hereby d (Ask Tasks) base request order copies link bits) ack q
+    → ControlEffect job (hereby d StoreDepth base request order copies link bits) (hereby d (Ask Tasks) base request order copies link bits) ack q
 goes_depth job d base request order copies link bits fit ack q fetch = record {
   later = omega arith;
   fetch = fetch;

@@ -21,10 +21,10 @@ use Rattle.word_machine_laws.proofs.DeskChanges.{SubjectBy, between, since-step,
 use Rattle.word_machine.proofs.Small.{put_same, each_of}
 use Rattle.word_machine_laws.proofs.Sites.{Fetches, passed_same}
 use Rattle.word_machine_laws.proofs.SiteSyncs.{enter_row}
-use Rattle.word_machine_laws.proofs.Goes.{Goes}
+use Rattle.word_machine_laws.proofs.ControlEffects.{ControlEffect}
 use Rattle.word_machine_laws.proofs.NoSwitch.{world, hereby, Flags, seen_on, read_still, goes_still, tramps_on, tramps_before, sets_on, limits_on, row_kept}
 use Rattle.word_machine_laws.proofs.SiteRows.{InBatch, in_batch}
-use Rattle.word_machine_laws.proofs.DeskKept.{order_next, sort_adds, sort_removes}
+use Rattle.word_machine_laws.proofs.CommandDesks.{order_next, sort_adds, sort_removes}
 use Rattle.word_machine_laws.proofs.UserList.{Among, among_of, has_of, Falls, falls_of, without_user, WalkOn, reads_name, reads_other, reads_older, push_reads, namer, namer_word, namer_later, unlink_reads, without_older, unlink_walker, without_filter}
 use Rattle.word_machine_laws.proofs.Effects.{adds_of, relinks_patches, none_gave}
 
@@ -95,7 +95,7 @@ module _ (job : Job) (ok : IsWellFormed job) (ws : Words) (d : ℕ) (remaining :
       (λ t there r. rw (b.stored.quiet request t) (omega arith)) (λ ack q small fetch. goes b k ack q fetch)
     where
       goes : (b : InBatch job d (batch_first job d)) (k : At order Relink) (ack q : ℕ) → Fetches job ack d Relink k.base d (batch_first job d) k.base
-          → Goes job (hereby d Relink k.base request order copies ws.link ws.bits) (hereby d (batch_first job d) k.base request order' copies link' ws.bits) ack q
+          → ControlEffect job (hereby d Relink k.base request order copies ws.link ws.bits) (hereby d (batch_first job d) k.base request order' copies link' ws.bits) ack q
       goes b k ack q fetch = record {
         later = omega arith;
         fetch = fetch;

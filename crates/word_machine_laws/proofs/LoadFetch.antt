@@ -21,7 +21,7 @@ use Rattle.word_machine.specs.Sites.{stage, stage_in, stage_by, asks, SiteAt, Fe
 use Rattle.word_machine.specs.Trampolines.{IsOwned}
 use Rattle.word_machine.specs.Verdicts.{Here, Dispatches, TrampSeen}
 use Rattle.word_machine.specs.Rule.{Counts, IsWordJob}
-use Rattle.word_machine_laws.proofs.Seen.{selected-underway}
+use Rattle.word_machine_laws.proofs.VerdictLaws.{selected-underway}
 use Rattle.word_machine.proofs.Small.{if_case}
 use Rattle.word_machine_laws.proofs.Batches.{is-move, sweep-syncs}
 use Rattle.word_machine_laws.proofs.Contents.{decode_own}

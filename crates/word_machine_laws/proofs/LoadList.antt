@@ -18,7 +18,7 @@ use Rattle.word_machine.specs.Progress.{listed}
 use Rattle.word_machine.specs.UserList.{since_of, older, list_desk, UserList}
 use Rattle.word_machine.specs.Verdicts.{Here, Dispatches, RanIs, Walks, BeforeVisit, AfterVisit, may_come_before, may_come_after, may_come_closing}
 use Rattle.word_machine.specs.Rule.{Counts, IsWordJob}
-use Rattle.word_machine_laws.proofs.Seen.{listed-underway}
+use Rattle.word_machine_laws.proofs.VerdictLaws.{listed-underway}
 use Rattle.word_machine.proofs.Small.{if_case, each_of, has_case, has-head}
 use Rattle.word_machine_laws.proofs.LoadMoments.{dispatch_goes}
 use Rattle.word_machine_laws.proofs.LoadFetch.{begun-low, begun-high}

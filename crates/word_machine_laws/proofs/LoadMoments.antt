@@ -24,7 +24,7 @@ use Rattle.ft_base.specs.Kinds.{has_depth}
 use Rattle.ft_base.specs.Desk.{spec_at}
 use Rattle.ft_base.specs.Tasks.{has_acts}
 use Rattle.word_machine_laws.proofs.MarkDispatch.{task}
-use Rattle.word_machine_laws.proofs.Told.{first-loud}
+use Rattle.word_machine_laws.proofs.PollWords.{first-loud}
 
 -- two moments of a call that the history does not tell apart
 pub record Alike (m m' : Moment) : Type 0 where

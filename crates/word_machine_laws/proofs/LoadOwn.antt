@@ -18,7 +18,7 @@ use Rattle.word_machine.specs.HashCopies.{HashCopies, Reader}
 use Rattle.word_machine.specs.Trampolines.{TrampolinesHeld}
 use Rattle.word_machine.specs.Verdicts.{Here, Seen, Found, InOwn, Dispatches, BeforeVisit, may_come_before, may_come_closing}
 use Rattle.word_machine.specs.Rule.{Counts, IsWordJob}
-use Rattle.word_machine_laws.proofs.Seen.{seen_map, selected-underway}
+use Rattle.word_machine_laws.proofs.VerdictLaws.{seen_map, selected-underway}
 use Rattle.word_machine_laws.proofs.DeskChanges.{SubjectBy, between, numbers-kept}
 use Rattle.word_map.proofs.ContentLaws.{tramp-reads}
 use Rattle.word_machine_laws.proofs.Contents.{sel-reg-is, test_on, test_off}

@@ -14,7 +14,7 @@ use Rattle.word_machine.specs.HashCopies.{HashCopies}
 use Rattle.word_machine.specs.Verdicts.{Here}
 use Rattle.word_machine.specs.Calls.{CallAt, Leaves}
 use Rattle.word_machine.specs.Rule.{Counts, IsWordJob}
-use Rattle.word_machine_laws.proofs.Seen.{selected-underway}
+use Rattle.word_machine_laws.proofs.VerdictLaws.{selected-underway}
 use Rattle.word_machine.proofs.Small.{if_case}
 use Rattle.word_machine_laws.proofs.Contents.{stands-live}
 use Rattle.word_machine_laws.proofs.LoadFetch.{begun-low, begun-high}

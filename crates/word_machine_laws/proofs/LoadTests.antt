@@ -23,7 +23,7 @@ use Rattle.word_machine.specs.HashCopies.{HashCopies, ReaderAt, InFilter, InNotr
 use Rattle.word_machine.specs.Trampolines.{PidsAndDepth}
 use Rattle.word_machine.specs.Verdicts.{Here, Seen, Found, Dispatches, RanIs, BeforeVisit, AfterVisit, PidSeen, GuardIs, may_come_before, may_come_after}
 use Rattle.word_machine.specs.Rule.{Counts, IsWordJob}
-use Rattle.word_machine_laws.proofs.Seen.{seen_map, seen_either, selected-underway, listed-underway}
+use Rattle.word_machine_laws.proofs.VerdictLaws.{seen_map, seen_either, selected-underway, listed-underway}
 use Rattle.word_machine.proofs.Small.{if_case}
 use Rattle.word_machine_laws.proofs.Contents.{on_by, test_on, test_off, mask-is, filter_in, filter_out, notrace_on, notrace_off}
 use Rattle.word_machine_laws.proofs.LoadMoments.{dispatch_goes, entry-from}

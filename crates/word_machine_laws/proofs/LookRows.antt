@@ -10,7 +10,7 @@ use Rattle.word_machine.specs.Cpu.{Cpu, Phase, Going, Looked, Answering, has_mor
 use Rattle.word_machine.specs.Verdicts.{Here}
 use Rattle.word_machine.specs.Rule.{CpuRule, IsOn, PollAt, WordsBelow}
 use Rattle.word_machine_laws.proofs.PollTasks.{task_ack}
-use Rattle.word_machine_laws.proofs.Told.{told-later}
+use Rattle.word_machine_laws.proofs.PollWords.{told-later}
 
 -- a task at a step before which requests can be answered fetches nothing
 open-still : (x : TaskState) (m : Moment) → is_open_to_requests x m ≡ true → is_fetching m ≡ false

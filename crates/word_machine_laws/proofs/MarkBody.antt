@@ -34,13 +34,13 @@ use Rattle.word_machine.specs.Verdicts.{Here, Dispatches, SeenVisit, may_come_cl
 use Rattle.word_machine.specs.Calls.{Calls, Opened, BodyRuns, under_call}
 use Rattle.word_machine.specs.Tasks.{TaskRule, plain_stack, frame_of}
 use Rattle.word_machine.specs.Rule.{Counts, IsWordJob}
-use Rattle.word_machine_laws.proofs.Carried.{calls_carried}
+use Rattle.word_machine_laws.proofs.OtherItems.{calls_carried}
 use Rattle.word_machine_laws.proofs.Stacks.{opens-of, older_untouched}
 use Rattle.word_machine_laws.proofs.DeskChanges.{between, numbers-kept}
 use Rattle.word_machine_laws.proofs.Marks.{follows, mid_kept}
 use Rattle.word_machine_laws.proofs.MarkDispatch.{task, few-below}
 use Rattle.ft_base.proofs.Targets.{sited_own, sited_nop, off_unsited}
-use Rattle.word_machine_laws.proofs.Told.{told-fewer, one-done}
+use Rattle.word_machine_laws.proofs.PollWords.{told-fewer, one-done}
 use Rattle.ft_hist.proofs.ItemParts.{of_body}
 
 -- ## what a target says of users

@@ -38,9 +38,9 @@ use Rattle.word_machine.specs.Verdicts.{Here, SeenVisit, may_come_before, may_co
 use Rattle.word_machine.specs.Calls.{CallAt, Calls, under_call}
 use Rattle.word_machine.specs.Tasks.{TaskRule, plain_stack, plain_phase, frame_of, callbacks_at, callback_at, miss_at, is_returning, with_callback, open_by}
 use Rattle.word_machine.specs.Rule.{Counts, IsWordJob}
-use Rattle.word_machine_laws.proofs.Carried.{calls_carried, opened_carried}
+use Rattle.word_machine_laws.proofs.OtherItems.{calls_carried, opened_carried}
 use Rattle.word_machine_laws.proofs.Stacks.{calls_of, opens-of, older_untouched, held-level, levels-are}
-use Rattle.word_machine_laws.proofs.Seen.{either_of, selected-underway, pids-underway, depth-underway}
+use Rattle.word_machine_laws.proofs.VerdictLaws.{either_of, selected-underway, pids-underway, depth-underway}
 use Rattle.word_machine_laws.proofs.DeskChanges.{since-unique, numbers-kept}
 use Rattle.word_machine_laws.proofs.Visiting.{may_meet, walk-since, read-numbers, read-reg}
 use Rattle.word_machine_laws.proofs.Marks.{follows, mid_kept}

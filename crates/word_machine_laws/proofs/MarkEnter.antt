@@ -29,7 +29,7 @@ use Rattle.word_machine.specs.Calls.{Calls, CallAt, Opened, under_call}
 use Rattle.word_machine.specs.UserList.{since_of, list_desk}
 use Rattle.word_machine.specs.Tasks.{TaskRule, plain_stack, frame_of, open_by, scripted_of}
 use Rattle.word_machine.specs.Rule.{Counts, IsWordJob}
-use Rattle.word_machine_laws.proofs.Carried.{calls_carried, call_carried, opened_carried}
+use Rattle.word_machine_laws.proofs.OtherItems.{calls_carried, call_carried, opened_carried}
 use Rattle.word_machine_laws.proofs.Stacks.{opens-of, older_untouched}
 use Rattle.word_machine_laws.proofs.Marks.{follows, mid_kept}
 use Rattle.word_machine_laws.proofs.MarkDispatch.{task, so-holds}

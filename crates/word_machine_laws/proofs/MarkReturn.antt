@@ -24,13 +24,13 @@ use Rattle.word_machine.specs.Verdicts.{Here}
 use Rattle.word_machine.specs.Calls.{Calls, CallAt, Opened, BodyRuns, Leaves, under_call}
 use Rattle.word_machine.specs.Tasks.{TaskRule, StandsIn, plain_stack, plain_phase, frame_of, open_by, callbacks_at, callback_at, miss_at, is_returning, with_callback, HasCaller, Grounded}
 use Rattle.word_machine.specs.Rule.{Counts}
-use Rattle.word_machine_laws.proofs.Carried.{calls_carried, opened_carried, leaves_carried}
-use Rattle.word_machine_laws.proofs.Seen.{either_of, selected-underway}
+use Rattle.word_machine_laws.proofs.OtherItems.{calls_carried, opened_carried, leaves_carried}
+use Rattle.word_machine_laws.proofs.VerdictLaws.{either_of, selected-underway}
 use Rattle.word_machine_laws.proofs.Stacks.{opens-of, older_untouched}
 use Rattle.word_machine_laws.proofs.Marks.{follows, mid_kept}
 use Rattle.word_machine_laws.proofs.MarkDispatch.{task, few-below, ended-own}
 use Rattle.word_machine_laws.proofs.MarkEnter.{open_first}
-use Rattle.word_machine_laws.proofs.Told.{told-fewer, first-loud, one-done}
+use Rattle.word_machine_laws.proofs.PollWords.{told-fewer, first-loud, one-done}
 use Rattle.ft_hist.proofs.ItemParts.{of_exits}
 
 -- what all places between the exits have

@@ -14,7 +14,7 @@ use Rattle.word_machine.specs.Verdicts.{Here}
 use Rattle.word_machine.specs.Calls.{Calls}
 use Rattle.word_machine.specs.Tasks.{Grounded, TaskRule, StandsIn, plain_stack, callbacks_at, miss_at, open_by, is_returning}
 use Rattle.ft_hist.proofs.Carries.{of_task}
-use Rattle.word_machine_laws.proofs.Told.{first-loud}
+use Rattle.word_machine_laws.proofs.PollWords.{first-loud}
 use Rattle.ft_hist.proofs.ItemParts.{KeepsOthers, may_follow}
 
 -- one more item of a task: it may come, and the task goes on

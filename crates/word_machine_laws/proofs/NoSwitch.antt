@@ -19,9 +19,9 @@ use Rattle.word_machine.specs.Trampolines.{TrampolinesHeld, PidsAndDepth}
 use Rattle.word_machine.specs.Verdicts.{Here}
 use Rattle.word_machine.specs.Rule.{MachineRule, UnderAt, Counts, ControlLines}
 use Rattle.word_machine_laws.proofs.Effects.{closes, none_gave}
-use Rattle.word_machine_laws.proofs.Seen.{seen_still}
+use Rattle.word_machine_laws.proofs.VerdictLaws.{seen_still}
 use Rattle.word_machine_laws.proofs.Sites.{Fetches, Passed}
-use Rattle.word_machine_laws.proofs.Goes.{Goes, cpu_goes}
+use Rattle.word_machine_laws.proofs.ControlEffects.{ControlEffect, cpu_goes}
 
 -- a state, with control at a position
 abbrev pub world : Words → ℕ → List Ctl → ℕ → (ℕ → ℕ) → List ℕ → (ℕ → Cpu) → List Item → Position → World
@@ -101,7 +101,7 @@ module _ (job : Job) (d : ℕ) (p p' : Position) (request request' q : ℕ) (hol
 module _ (job : Job) (d : ℕ) (p p' : Position) (base base' request request' : ℕ) (flags : Flags job d p p' request request') (order : List ℕ) (copies : ℕ
     → ℕ) (link : ℕ → ℕ) (bits : ℕ → ℕ → ℕ → ℕ → ℕ) where
   pub goes_still : (ack q : ℕ) → q ≤ request → Fetches job ack d p base d p' base'
-      → Goes job (hereby d p base request order copies link bits) (hereby d p' base' request' order copies link bits) ack q
+      → ControlEffect job (hereby d p base request order copies link bits) (hereby d p' base' request' order copies link bits) ack q
   goes_still ack q small fetch = record {
     later = omega arith;
     fetch = fetch;
@@ -185,7 +185,7 @@ module _ (job : Job) (ws : Words) (d : ℕ) (remaining : List Ctl) (request : �
       → ((t : ℕ) → t < length job.tasks → quiet_reached (effect job d) p request t ≤ low (ws.quiet t)
       → quiet_reached (effect job d) p' request' t ≤ low (ws.quiet t))
       → ((ack q : ℕ) → q ≤ request → Fetches job ack d p k.base d p' base'
-      → Goes job (hereby d p k.base request order copies ws.link ws.bits) (hereby d p' base' request' order' copies' link bits) ack q)
+      → ControlEffect job (hereby d p k.base request order copies ws.link ws.bits) (hereby d p' base' request' order' copies' link bits) ack q)
       → MachineRule job (world (record ws {
         want = want;
         first = first;

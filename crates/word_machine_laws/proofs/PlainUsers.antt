@@ -25,7 +25,7 @@ use Rattle.word_machine.specs.HashCopies.{HasSets, HashCopies, LeftAt, Reader, R
 use Rattle.word_machine.specs.Trampolines.{TrampolinesHeld}
 use Rattle.word_machine.specs.Verdicts.{Here, Dispatches, RanIs, BeforeVisit, Walks, may_come_before}
 use Rattle.word_machine.specs.Rule.{Counts, IsWordJob}
-use Rattle.word_machine_laws.proofs.Seen.{seen_map}
+use Rattle.word_machine_laws.proofs.VerdictLaws.{seen_map}
 use Rattle.word_machine_laws.proofs.DeskStart.{nobody_is}
 use Rattle.word_machine_laws.proofs.DeskChanges.{SubjectBy, between}
 use Rattle.word_machine_laws.proofs.DeskNumbers.{sited-registered}

@@ -25,7 +25,7 @@ use Rattle.word_machine.specs.Verdicts.{Here}
 use Rattle.word_machine.specs.Tasks.{TaskRule, HasTold, StandsIn}
 use Rattle.word_machine.specs.Rule.{MachineRule, here, ControlLines, IsWordJob, CpuRule, IsOn, PollAt, Polls, WordsBelow, task_in}
 use Rattle.word_machine.proofs.Small.{put_same, put_other, put_case}
-use Rattle.word_machine_laws.proofs.Carried.{task_carried}
+use Rattle.word_machine_laws.proofs.OtherItems.{task_carried}
 use Rattle.word_machine_laws.proofs.TaskSteps.{task_step, SteppedBy, is_polling}
 use Rattle.word_machine_laws.proofs.PollTasks.{task_ack, quiet_calls}
 use Rattle.word_machine_laws.proofs.PollSteps.{moved-kept, poll_on-kept}
@@ -33,7 +33,7 @@ use Rattle.word_machine_laws.proofs.Effects.{reached-low, quiet-low, asked-four}
 use Rattle.word_map.proofs.ContentLaws.{low-halves}
 use Rattle.word_machine_laws.proofs.Contents.{low-small}
 use Rattle.word_machine_laws.proofs.TasksOf.{task_goes_on}
-use Rattle.word_machine_laws.proofs.Told.{told-more}
+use Rattle.word_machine_laws.proofs.PollWords.{told-more}
 use Rattle.word_machine_laws.proofs.LookRows.{looked-kept, answered-kept, over-kept}
 use Rattle.word_machine_laws.proofs.Finished.{task-gone, Grows, grows-put, grows-moved, grows-on, grows-polling, present-is, present-got, polling-of}
 use Rattle.ft_hist.proofs.Carries.{carries_item}

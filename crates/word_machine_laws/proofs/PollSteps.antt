@@ -26,7 +26,7 @@ use Rattle.word_machine_laws.proofs.Start.{on-tasks}
 use Rattle.word_machine_laws.proofs.MarkDispatch.{task}
 use Rattle.word_machine_laws.proofs.MarkReturn.{polling_callbacks}
 use Rattle.word_machine_laws.proofs.TasksOf.{first-there}
-use Rattle.word_machine_laws.proofs.Told.{told-more, told-fewer}
+use Rattle.word_machine_laws.proofs.PollWords.{told-more, told-fewer}
 
 -- ## switches
 

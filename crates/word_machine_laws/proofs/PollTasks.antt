@@ -8,7 +8,7 @@ use Rattle.word_machine.specs.Task.{OpenCall, TaskState, Moment, Polling, First,
 use Rattle.word_machine.specs.Verdicts.{Here, DispatchAt}
 use Rattle.word_machine.specs.Calls.{Calls, CallAt, under_call, under_by}
 use Rattle.word_machine.specs.Tasks.{TaskRule}
-use Rattle.word_machine_laws.proofs.Goes.{calls_quiet, calls_polling}
+use Rattle.word_machine_laws.proofs.ControlEffects.{calls_quiet, calls_polling}
 
 -- ## which task runs
 

@@ -21,7 +21,7 @@ use Rattle.word_machine.specs.HashCopies.{HasSets, SelIs, stored_last, WrittenAt
 use Rattle.word_machine.specs.Rule.{MachineRule}
 use Rattle.word_machine.proofs.Small.{if_case, flip_other}
 use Rattle.word_machine_laws.proofs.Sites.{Fetches, passed_same}
-use Rattle.word_machine_laws.proofs.Goes.{Goes}
+use Rattle.word_machine_laws.proofs.ControlEffects.{ControlEffect}
 use Rattle.word_machine_laws.proofs.NoSwitch.{world, hereby, Flags, goes_still, tramps_on, listed_on, limits_on, row_kept}
 use Rattle.word_machine_laws.proofs.Effects.{writes_selects, none_gave}
 
@@ -49,9 +49,9 @@ module _ (job : Job) (d h w : ℕ) (copies : ℕ → ℕ) (bits : ℕ → ℕ �
 
   goes_copy : (p' : Position) (base request : ℕ) (order : List ℕ) (link : ℕ → ℕ) → Flags job d (Copy h w) p' request request → ((u : ℕ) → copies u < 2)
       → (ack q : ℕ) → q ≤ request → Fetches job ack d (Copy h w) base d p' base
-      → Goes job (hereby d (Copy h w) base request order copies link bits) (hereby d p' base request order copies link bits') ack q
+      → ControlEffect job (hereby d (Copy h w) base request order copies link bits) (hereby d p' base request order copies link bits') ack q
   goes_copy p' base request order link flags small ack q le fetch =
-      let g : Goes job (hereby d (Copy h w) base request order copies link bits) (hereby d p' base request order copies link bits) ack q =
+      let g : ControlEffect job (hereby d (Copy h w) base request order copies link bits) (hereby d p' base request order copies link bits) ack q =
       goes_still job d (Copy h w) p' base base request request flags order copies link bits ack q le fetch in
       record {
         later = g.later;

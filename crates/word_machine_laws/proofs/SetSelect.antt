@@ -26,10 +26,10 @@ use Rattle.word_machine_laws.proofs.DeskChanges.{SubjectBy, between}
 use Rattle.word_machine.proofs.Small.{put_case, put_same, put_other}
 use Rattle.word_machine_laws.proofs.Sites.{Fetches, Passed, passed_same}
 use Rattle.word_machine_laws.proofs.SiteSyncs.{enter_row}
-use Rattle.word_machine_laws.proofs.Goes.{Goes}
+use Rattle.word_machine_laws.proofs.ControlEffects.{ControlEffect}
 use Rattle.word_machine_laws.proofs.NoSwitch.{world, hereby, seen_on, tramps_on, listed_on, limits_on, row_kept}
 use Rattle.word_machine_laws.proofs.SiteRows.{InBatch, Stored, stored_at, stored_Close, in_batch, in_ask}
-use Rattle.word_machine_laws.proofs.DeskKept.{others_same, user_kept, none_changes, rest_same, order_flips}
+use Rattle.word_machine_laws.proofs.CommandDesks.{others_same, user_kept, none_changes, rest_same, order_flips}
 use Rattle.word_machine_laws.proofs.Effects.{after_small, none_gave}
 
 -- the state of a user that is not registered
@@ -70,7 +70,7 @@ module _ (job : Job) (ok : IsWellFormed job) (d : ℕ) (copies : ℕ → ℕ) wh
   module _ (p' : Position) (base base' request : ℕ) (order : List ℕ) (first : ℕ) (link : ℕ → ℕ) (bits : ℕ → ℕ → ℕ → ℕ
       → ℕ) (b : Selected job d p' order first link) where
     goes_select : (ack q : ℕ) → Fetches job ack d Select base d p' base'
-        → Goes job (hereby d Select base request order copies link bits) (hereby d p' base' request order Copies link bits) ack q
+        → ControlEffect job (hereby d Select base request order copies link bits) (hereby d p' base' request order Copies link bits) ack q
     goes_select ack q fetch = record {
       later = omega arith;
       fetch = fetch;

@@ -9,7 +9,7 @@ use Rattle.word_machine.specs.Progress.{underway}
 use Rattle.word_machine.specs.Sites.{SiteAt, stage, stage_in, stage_by}
 use Rattle.word_machine.specs.Rule.{MachineRule}
 use Rattle.word_machine.specs.Laws.{HasTarget, IsSettled}
-use Rattle.word_machine_laws.proofs.Seen.{selected-underway}
+use Rattle.word_machine_laws.proofs.VerdictLaws.{selected-underway}
 use Rattle.word_machine_laws.proofs.Effects.{late}
 
 module _ (job : Job) (s : World) (kept : MachineRule job s) (f : ℕ) (inside : f < funcs job) where

@@ -13,7 +13,7 @@ use Rattle.ft_hist.specs.Past.{Callback, callbacks, is_ctx, open_callbacks, held
 use Rattle.ft_hist.proofs.RunLaws.{calls_on}
 use Rattle.ft_hist.specs.Known.{holds}
 use Rattle.ft_hist.proofs.Since.{Untouched, untouched-item, touches, holding}
-use Rattle.ft_hist.proofs.HeldLaws.{opens as opens-law, Opens, held-is, not_same}
+use Rattle.ft_hist.proofs.FrameCounts.{opens as opens-law, Opens, held-is, not_same}
 use Rattle.ft_hist.specs.Dispatch.{held_levels}
 use Rattle.word_machine.specs.Task.{OpenCall, TaskState, Moment, guards_under, level_of, around, user_of}
 use Rattle.word_machine.specs.Verdicts.{Here}

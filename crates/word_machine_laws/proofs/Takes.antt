@@ -11,7 +11,7 @@ use Rattle.word_machine.specs.Sites.{stage}
 use Rattle.word_machine.specs.Rule.{MachineRule, here, IsWordJob}
 use Rattle.word_machine.specs.Laws.{IsAt, Takes}
 use Rattle.word_machine_laws.proofs.Contents.{decode_own}
-use Rattle.word_machine_laws.proofs.Fits.{tail_fits, next_fits, tramp_fits, first_fits, link_fits}
+use Rattle.word_machine_laws.proofs.DispatchValues.{tail_fits, next_fits, tramp_fits, first_fits, link_fits}
 use Rattle.word_machine_laws.proofs.Settled.{has_begun}
 use Rattle.word_machine_laws.proofs.OpenCalls.{task-rule, call-rule}
 

@@ -39,7 +39,7 @@ use Rattle.ft_hist.specs.Dispatch.{is_full}
 use Rattle.ft_base.specs.Kinds.{has_depth}
 use Rattle.ft_base.specs.Desk.{spec_at}
 use Rattle.ft_base.specs.Tasks.{has_acts}
-use Rattle.word_machine_laws.proofs.Told.{told-fewer}
+use Rattle.word_machine_laws.proofs.PollWords.{told-fewer}
 
 -- a clock tells how many commands have returned
 pub clock-returned : (d x len clock : ℕ) → (x ≡ d) → (b : Bool) → clock ≡ halves (x + cond b (suc d) d) len → len < half_size → returned_at clock ≡ d

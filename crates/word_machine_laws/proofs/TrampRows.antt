@@ -26,7 +26,7 @@ use Rattle.word_machine_laws.proofs.DeskChanges.{SubjectBy, between}
 use Rattle.word_machine.proofs.Small.{if_case, put_same, put_other, slot_is}
 use Rattle.word_machine_laws.proofs.Sites.{Passed, passed_same}
 use Rattle.word_machine_laws.proofs.NoSwitch.{world, Flags, goes_still, listed_on, sets_on, limits_on, row_kept}
-use Rattle.word_machine_laws.proofs.DeskKept.{others_same}
+use Rattle.word_machine_laws.proofs.CommandDesks.{others_same}
 use Rattle.word_machine_laws.proofs.DeskSlots.{added_free, slots_apart}
 use Rattle.word_machine_laws.proofs.Effects.{adds_of, removes_of, none_gave, closing}
 

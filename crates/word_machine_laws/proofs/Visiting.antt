@@ -21,7 +21,7 @@ use Rattle.word_machine.specs.UserList.{since_of, list_desk}
 use Rattle.word_machine.specs.Verdicts.{Here, Found, BeforeVisit, Walks}
 use Rattle.word_machine.specs.Rule.{Counts, IsWordJob}
 use Rattle.word_machine_laws.proofs.DeskChanges.{between, since-between, numbers-kept, since-positive}
-use Rattle.word_machine_laws.proofs.Seen.{seen_either, seen_map, either_of, selected-underway, listed-underway}
+use Rattle.word_machine_laws.proofs.VerdictLaws.{seen_either, seen_map, either_of, selected-underway, listed-underway}
 
 module _ (job : Job) (ok : IsWordJob job) where
   abbrev Told : List Item → List Visit → Type 0

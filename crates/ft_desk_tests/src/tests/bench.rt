@@ -57,9 +57,9 @@ pub struct Bench {
 
 impl Model for Bench {
     ghost use Rattle.std.specs.Prelude.{◌≡◌, length};
-    ghost use Rattle.ft_desk.specs.Seen.{Seen};
+    ghost use Rattle.ft_desk.specs.DeskView.{DeskView};
 
-    ghost Value = { Seen };
+    ghost Value = { DeskView };
 
     ghost view = { λ b. b.desk };
 

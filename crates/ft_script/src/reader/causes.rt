@@ -17,7 +17,7 @@ impl Reader {
     ghost use Rattle.ft_script.specs.Causes.{is_misplaced, has_ctl_in_no_lane, is_wrong_lane, is_out_of_place, is_absent, module_named, is_duplicate, has_pid, has_no_pid, is_unmatched, is_unbalanced};
     ghost use Rattle.ft_script.specs.Within.{IsWithinLimits};
     ghost use Rattle.func_table.specs.Modules.{modules_in};
-    ghost use Rattle.ft_script.specs.Kept.{above_of, declaration_of, HasNames};
+    ghost use Rattle.ft_script.specs.ReaderInvariant.{above_of, declaration_of, HasNames};
 
     // ## syntax
 

@@ -102,7 +102,7 @@ impl<'a> NamedModules<'a> {
     ghost use Rattle.ft_base.specs.Job.{Job};
     ghost use Rattle.user_specs.specs.Plain.{spec_of};
     ghost use Rattle.module_coverage.specs.Loaded.{is_changing};
-    ghost use Rattle.ft_script.specs.Kept.{AreOf};
+    ghost use Rattle.ft_script.specs.ReaderInvariant.{AreOf};
     ghost use Rattle.ft_script.specs.Script.{lies_in_named, needs_named};
 
     /// Whether a line names the module.
@@ -140,7 +140,7 @@ impl Reader {
     ghost use Rattle.script_waits.specs.Tasks.{lined_task};
     ghost use Rattle.script_waits.specs.Greedy.{IsLeast};
     ghost use Rattle.ft_script.specs.Holds.{Holds};
-    ghost use Rattle.ft_script.specs.Kept.{above_of, AreOf, IsOpen};
+    ghost use Rattle.ft_script.specs.ReaderInvariant.{above_of, AreOf, IsOpen};
     ghost use Rattle.ft_script.specs.Script.{job_tasks_of, IsLineOfNeed, MayFindUnloaded};
 
     /// The lowest line of a user that needs a function of one of these modules.

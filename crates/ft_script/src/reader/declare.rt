@@ -38,7 +38,7 @@ impl Reader {
     ghost use Rattle.ft_base.specs.Name.{is_name_text};
     ghost use Rattle.func_table.specs.Rows.{is_name_or_none};
     ghost use Rattle.user_specs.specs.Plain.{spec_of};
-    ghost use Rattle.filter_commands.specs.Kept.{plain_trigger};
+    ghost use Rattle.filter_commands.specs.Meanings.{plain_trigger};
     ghost use Rattle.ft_script.specs.declared.faults.Cause.TheVariants.{Limit, NoMemory};
     ghost use Rattle.ft_script.specs.Above.{declared, slots_of, with_what, with_user, with_act, with_ctl, lanes_with, a_function, an_absence, a_trigger, a_cpu, a_task, a_ctl, more_turns};
     ghost use Rattle.ft_script.specs.Expansion.{expanded, expansion_of, command_count};
@@ -46,8 +46,8 @@ impl Reader {
     ghost use Rattle.ft_script.specs.Script.{IsRefused};
     ghost use Rattle.ft_script.specs.Within.{IsWithinLimits, IsSmall};
     ghost use Rattle.ft_script.specs.Holds.{IsLine};
-    ghost use Rattle.ft_script.specs.Fits.{Fits, FitsAs};
-    ghost use Rattle.ft_script.specs.Kept.{above_of, script_ctl_of, expansion_in, declaration_of, resolved_of, names_with, IsOther, KeepsRest, IsKept, IsOpen};
+    ghost use Rattle.ft_script.specs.LineConditions.{Fits, FitsAs};
+    ghost use Rattle.ft_script.specs.ReaderInvariant.{above_of, script_ctl_of, expansion_in, declaration_of, resolved_of, names_with, IsOther, KeepsRest, ReaderInvariant, IsOpen};
 
     fn add_function(
         &mut self,
@@ -170,7 +170,7 @@ impl Reader {
     /// Control opens: from here on there is what its lines come to, if they have no lanes.
     pub fn open(&mut self, alloc: Global) -> Result<(), AllocError>
         requires within { IsWithinLimits (above_of self.old) }
-        requires kept { IsKept self.old }
+        requires kept { ReaderInvariant self.old }
         ensures above { OnOk result (above_of self.new ≡ above_of self.old) }
         ensures names { OnOk result (self.new.names ≡ self.old.names) }
         ensures open { OnOk result (IsOpen self.new) }
@@ -194,7 +194,7 @@ impl Reader {
     fn expand(&mut self, alloc: Global, ctl: &ScriptCtl) -> Result<(), AllocError>
         requires small { IsSmall (above_of self.old) }
         requires line { IsLine (above_of self.old) (script_ctl_of (length self.old.tasks.items) ctl.now) }
-        requires kept { IsKept self.old }
+        requires kept { ReaderInvariant self.old }
         ensures above { OnOk result (above_of self.new ≡ above_of self.old) }
         ensures names { OnOk result (self.new.names ≡ self.old.names) }
         ensures expansion { OnOk result (IfSome self.new.expansion (λ x. (self.old.lane_count ≡ 0) × (expansion_in (length self.old.tasks.items) x
@@ -226,10 +226,10 @@ impl Reader {
     fn add_ctl(&mut self, alloc: Global, ctl: ScriptCtl) -> Result<(), Cause>
         requires small { IsSmall (above_of self.old) }
         requires fits { FitsAs (above_of self.old) (a_ctl (script_ctl_of (length self.old.tasks.items) ctl)) }
-        requires kept { IsKept self.old }
+        requires kept { ReaderInvariant self.old }
         ensures ok { OnOk result (above_of self.new ≡ with_ctl (above_of self.old) (script_ctl_of (length self.old.tasks.items) ctl)) }
         ensures few { OnOk result (has_too_many_commands (above_of self.old) (a_ctl (script_ctl_of (length self.old.tasks.items) ctl)) ≡ false) }
-        ensures kept { OnOk result (IsKept self.new) }
+        ensures kept { OnOk result (ReaderInvariant self.new) }
         ensures err { IfErr result (λ cause. (cause ≡ NoMemory) ⊎ ((cause ≡ Limit)
             × (COMMANDS < command_count (with_ctl (above_of self.old) (script_ctl_of (length self.old.tasks.items) ctl))))) }
     {
@@ -284,10 +284,10 @@ impl Reader {
     fn add(&mut self, alloc: Global, what: Declaration) -> Result<(), Cause>
         requires small { IsSmall (above_of self.old) }
         requires fits { FitsAs (above_of self.old) (declaration_of (length self.old.tasks.items) what) }
-        requires kept { IsKept self.old }
+        requires kept { ReaderInvariant self.old }
         ensures ok { OnOk result (above_of self.new ≡ with_what (above_of self.old) (declaration_of (length self.old.tasks.items) what.entry)) }
         ensures few { OnOk result (has_too_many_commands (above_of self.old) (declaration_of (length self.old.tasks.items) what.entry) ≡ false) }
-        ensures kept { OnOk result (IsKept self.new) }
+        ensures kept { OnOk result (ReaderInvariant self.new) }
         ensures err { IfErr result (λ cause. (cause ≡ NoMemory) ⊎ ((cause ≡ Limit)
             × (has_too_many_commands (above_of self.old) (declaration_of (length self.old.tasks.items) what.entry) ≡ true))) }
     {
@@ -301,10 +301,10 @@ impl Reader {
     pub fn declare(&mut self, alloc: Global, line: Resolved) -> Result<(), Cause>
         requires small { IsSmall (above_of self.old) }
         requires fits { Fits (above_of self.old) (resolved_of (length self.old.tasks.items) line) }
-        requires kept { IsKept self.old }
+        requires kept { ReaderInvariant self.old }
         ensures ok { OnOk result (above_of self.new ≡ declared (above_of self.old) (resolved_of (length self.old.tasks.items) line.entry)) }
         ensures few { OnOk result (has_too_many_commands (above_of self.old) (resolved_of (length self.old.tasks.items) line.entry).what ≡ false) }
-        ensures kept { OnOk result (IsKept self.new) }
+        ensures kept { OnOk result (ReaderInvariant self.new) }
         ensures err { IfErr result (IsRefused (carried_out (above_of self.old) (Ok (resolved_of (length self.old.tasks.items) line.entry)))) }
     {
         let Resolved { rank, what } = line;

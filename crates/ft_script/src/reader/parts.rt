@@ -8,7 +8,7 @@ ghost use Rattle.script_waits.specs.declared.script.LinedAct.{LinedAct};
 ghost use Rattle.script_waits.specs.Tasks.{lined_task};
 ghost use Rattle.ft_desk.specs.Lines.{lines_of};
 ghost use Rattle.ft_script.specs.Expansion.{commands_by, act_in_job, line_as_it_is, lines_as_they_are};
-ghost use Rattle.ft_script.specs.Kept.{control_line, lined_ctl};
+ghost use Rattle.ft_script.specs.ReaderInvariant.{control_line, lined_ctl};
 ghost use Rattle.ft_script.specs.Holds.{IsAtMost};
 ghost use Rattle.ft_script.specs.Script.{task_of, task_in_job, schedule_of};
 
@@ -257,7 +257,7 @@ impl Reader {
     ghost use Rattle.script_waits.specs.Tasks.{tracks_of};
     ghost use Rattle.script_waits.specs.Greedy.{IsDeadlock};
     ghost use Rattle.ft_script.specs.Expansion.{expansion_of};
-    ghost use Rattle.ft_script.specs.Kept.{above_of, AreParts, IsOpen};
+    ghost use Rattle.ft_script.specs.ReaderInvariant.{above_of, AreParts, IsOpen};
     ghost use Rattle.ft_script.specs.Script.{control_of, tasks_of, job_tasks_of};
 
     /// The lowest line that would be left waiting, if there is one.

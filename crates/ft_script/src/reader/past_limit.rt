@@ -20,7 +20,7 @@ impl Reader {
     ghost use Rattle.ft_script.specs.Causes.{is_past_limit, is_full_of_acts, is_full_of_calls, is_full_of_commands, has_no_room};
     ghost use Rattle.ft_script.specs.Within.{IsWithinLimits};
     ghost use Rattle.ft_script.specs.Expansion.{command_count};
-    ghost use Rattle.ft_script.specs.Kept.{above_of, IsKept};
+    ghost use Rattle.ft_script.specs.ReaderInvariant.{above_of, ReaderInvariant};
 
     /// What differs by version, of what there may be.
     fn limits(&self) -> Limits
@@ -39,7 +39,7 @@ impl Reader {
     /// How many commands the lines of control so far come to, those with which control opens among them.
     pub fn command_count(&self) -> u32
         requires few { self.now.expansion ≡ None → command_count (above_of self.now) < 2 ^ 32 }
-        requires kept { IsKept self.now }
+        requires kept { ReaderInvariant self.now }
         ensures { result ≡ command_count (above_of self.now) }
     {
         match &self.expansion {
@@ -52,7 +52,7 @@ impl Reader {
     fn unexpanded_count(&self) -> u32
         requires few { command_count (above_of self.now) < 2 ^ 32 }
         requires none { self.now.expansion ≡ None }
-        requires kept { IsKept self.now }
+        requires kept { ReaderInvariant self.now }
         ensures { result ≡ command_count (above_of self.now) }
     {
         if self.lane_count > 0 {
@@ -70,7 +70,7 @@ impl Reader {
     /// Whether one more command is too many.
     fn is_full_of_commands(&self) -> bool
         requires within { IsWithinLimits (above_of self.now) }
-        requires kept { IsKept self.now }
+        requires kept { ReaderInvariant self.now }
         ensures { result ≡ is_full_of_commands (above_of self.now) }
     {
         self.command_count() >= COMMANDS
@@ -121,7 +121,7 @@ impl Reader {
     /// it declares.
     pub fn is_past_limit(&self, form: &LineForm) -> bool
         requires within { IsWithinLimits (above_of self.now) }
-        requires kept { IsKept self.now }
+        requires kept { ReaderInvariant self.now }
         ensures { result ≡ is_past_limit (above_of self.now) (form_read form.now) }
     {
         match form {

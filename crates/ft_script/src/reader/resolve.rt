@@ -5,7 +5,7 @@ ghost use Rattle.ft_desk.specs.Commands.{command_of};
 ghost use Rattle.script_form.specs.Read.{form_read};
 ghost use Rattle.ft_script.specs.Causes.{a_command, first_line};
 ghost use Rattle.ft_script.specs.Script.{IsRefused};
-ghost use Rattle.ft_script.specs.Kept.{declaration_of, resolved_of};
+ghost use Rattle.ft_script.specs.ReaderInvariant.{declaration_of, resolved_of};
 
 use crate::declaration::{Declaration, Resolved, ScriptCtl};
 use crate::faults::Cause;
@@ -51,14 +51,14 @@ impl Reader {
     ghost use Rattle.script_form.specs.Read.{form_read, act_read, user_read};
     ghost use Rattle.script_text.specs.Lines.{lines_of};
     ghost use Rattle.site_set.specs.Edits.{plain_edit};
-    ghost use Rattle.filter_commands.specs.Kept.{plain_trigger};
+    ghost use Rattle.filter_commands.specs.Meanings.{plain_trigger};
     ghost use Rattle.user_specs.specs.Plain.{spec_of};
     ghost use Rattle.ft_script.specs.Above.{more_turns};
     ghost use Rattle.ft_script.specs.Causes.{is_past_limit, made, function_in, function_or_none, module_named, module_in, user_in, task_in, cpu_in, act_in, spec_in, edit_in, trigger_in, write_with, pids_in, turns_in, named, resolved, resolved_line};
     ghost use Rattle.ft_script.specs.Script.{IsRefused};
     ghost use Rattle.ft_script.specs.Within.{IsWithinLimits};
     ghost use Rattle.func_table.specs.Modules.{modules_in};
-    ghost use Rattle.ft_script.specs.Kept.{above_of, declaration_of, resolved_of, IsKept, HasNames};
+    ghost use Rattle.ft_script.specs.ReaderInvariant.{above_of, declaration_of, resolved_of, ReaderInvariant, HasNames};
 
     // ## what a line names
 
@@ -319,7 +319,7 @@ impl Reader {
         below: &[u8],
     ) -> Result<Resolved<'a>, Cause>
         requires within { IsWithinLimits (above_of self.now) }
-        requires kept { IsKept self.now }
+        requires kept { ReaderInvariant self.now }
         requires names { HasNames self.now (form_read form.now) }
         ensures ok { IfOk result (λ line. resolved (above_of self.now) (form_read form.now) (lines_of below.now) ≡ Ok (resolved_of (length self.now.tasks.items) line)) }
         ensures err { IfErr result (IsRefused (resolved (above_of self.now) (form_read form.now) (lines_of below.now))) }
@@ -353,7 +353,7 @@ impl Reader {
         below: &[u8],
     ) -> Result<Resolved<'a>, Cause>
         requires within { IsWithinLimits (above_of self.now) }
-        requires kept { IsKept self.now }
+        requires kept { ReaderInvariant self.now }
         requires names { IfSome form.now (λ form. HasNames self.now (form_read form)) }
         ensures ok { IfOk result (λ line. resolved_line (above_of self.now) ended (option_map form_read form.now) (lines_of below.now) ≡ Ok (resolved_of (length self.now.tasks.items) line)) }
         ensures err { IfErr result (IsRefused (resolved_line (above_of self.now) ended (option_map form_read form.now) (lines_of below.now))) }

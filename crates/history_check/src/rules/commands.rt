@@ -5,7 +5,7 @@ ghost use Rattle.std.specs.Prelude.{◌+◌, ◌<◌, ◌^◌, List, IsTrue, ◌
 ghost use Rattle.ft_base.specs.declared.item.Item.{Item};
 ghost use Rattle.ft_base.specs.Job.{Job as PlainJob, commands};
 ghost use Rattle.ft_hist.specs.Rules.{HasWaited, MayBegin, IsAnswered, KeepsCommands};
-ghost use Rattle.history_check.specs.KeptPast.{IsMet, IsPast};
+ghost use Rattle.history_check.specs.JudgePast.{IsMet, IsPast};
 
 use crate::past::Past;
 use ft_base::{Answer, Item, TaskNo};

@@ -9,8 +9,8 @@ ghost use Rattle.ft_base.specs.Desk.{desk, is_live};
 ghost use Rattle.ft_base.specs.Job.{Job as PlainJob};
 ghost use Rattle.ft_hist.specs.Past.{begun, miss_due};
 ghost use Rattle.ft_hist.specs.Rules.{AtReturnedOrBegun, HasExit, AreExitsDone, MayExit, MayMiss, KeepsExits};
-ghost use Rattle.history_check.specs.KeptCalls.{IsTop, visit_of};
-ghost use Rattle.history_check.specs.KeptPast.{IsPast, IsTopOf};
+ghost use Rattle.history_check.specs.TaskCalls.{IsTop, visit_of};
+ghost use Rattle.history_check.specs.JudgePast.{IsPast, IsTopOf};
 
 use crate::open_call::{OpenCall, Visit};
 use crate::past::Past;

@@ -7,8 +7,8 @@ ghost use Rattle.ft_base.specs.Desk.{desk, spec_at, target};
 ghost use Rattle.ft_base.specs.Job.{Job as PlainJob};
 ghost use Rattle.ft_hist.specs.Past.{visits};
 ghost use Rattle.ft_hist.specs.Rules.{InWindow, OneReplaces, OnlyThose, backs_with_replacement, replacement, IsFetched, KeepsFetches};
-ghost use Rattle.history_check.specs.KeptCalls.{IsTop};
-ghost use Rattle.history_check.specs.KeptPast.{IsPast, IsTopOf};
+ghost use Rattle.history_check.specs.TaskCalls.{IsTop};
+ghost use Rattle.history_check.specs.JudgePast.{IsPast, IsTopOf};
 
 use crate::open_call::{OpenCall, Visit};
 use crate::past::Past;

@@ -5,8 +5,8 @@ ghost use Rattle.ft_base.specs.declared.item.Item.{Item};
 ghost use Rattle.ft_base.specs.Desk.{desk, is_allowed};
 ghost use Rattle.ft_base.specs.Job.{Job as PlainJob};
 ghost use Rattle.ft_hist.specs.Rules.{AtReturnedOrBegun, IsFree, MayRefuse, PassesPid, KeepsRefusals, PassesAll};
-ghost use Rattle.history_check.specs.KeptCalls.{IsTop};
-ghost use Rattle.history_check.specs.KeptPast.{IsPast, IsTopOf};
+ghost use Rattle.history_check.specs.TaskCalls.{IsTop};
+ghost use Rattle.history_check.specs.JudgePast.{IsPast, IsTopOf};
 
 use crate::open_call::OpenCall;
 use crate::past::Past;

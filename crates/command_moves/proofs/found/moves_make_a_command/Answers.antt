@@ -1,6 +1,6 @@
 use Rattle.std.proofs.Common.{refl}
 use Rattle.word_machine.specs.Commands.{effect}
-use Rattle.command_moves.proofs.Goes.{begins}
+use Rattle.command_moves.proofs.MovesLeft.{begins}
 use Rattle.command_moves.proofs.found.moves_make_a_command.Goals as goal
 
 pub returns : goal.returns

@@ -2,7 +2,7 @@ use Rattle.std.proofs.Common.{◌≡◌, map, subst, Some, rules, IfOk, sym, ap,
 use Rattle.glob_filter.specs.Items.{items_of}
 use Rattle.filter_commands.specs.Forms.{named, in_module, form_of, glob_or_all}
 use Rattle.filter_commands.specs.Edits.{selected_by}
-use Rattle.filter_commands.specs.Kept.{takes}
+use Rattle.filter_commands.specs.Meanings.{takes}
 use Rattle.filter_commands.specs.declared.selector.Selector.{Selector}
 use Rattle.filter_commands.specs.declared.selector.Selector.TheVariants.{ByName, ByModule}
 use Rattle.filter_commands.proofs.edits.select.Goals as goal

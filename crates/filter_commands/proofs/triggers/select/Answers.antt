@@ -1,6 +1,6 @@
 use Rattle.std.proofs.Common.{◌≡◌, List, map, subst, rules, IfOk}
 use Rattle.glob_filter.specs.Items.{Item, items_of}
-use Rattle.glob_filter.specs.Fits.{is_fit}
+use Rattle.glob_filter.specs.Matching.{is_fit}
 use Rattle.filter_commands.proofs.triggers.select.Goals as goal
 
 pub returns-clause-set : goal.returns-clause-set

@@ -3,7 +3,7 @@ use Rattle.std.specs.Prelude.{IfOk}
 use Rattle.trace_print.specs.Kept.{IsKeptOf, content_of}
 use Rattle.ft_app.specs.Reply.{IsReplayOf, content_to_keep, history_of}
 use Rattle.ft_app.proofs.Ends.{by-number, spoken}
-use Rattle.ft_app.proofs.KeptRings.{plain-made}
+use Rattle.ft_app.proofs.HistoryRings.{plain-made}
 use Rattle.ft_app.proofs.plain.ft_plain.Goals as goal
 
 pub answer-requires-clause-serves : goal.answer-requires-clause-serves

@@ -7,7 +7,7 @@ use Rattle.trace_print.specs.Kept.{ForSummary, IsKeptOf, ServesSummary, content_
 use Rattle.trace_views.specs.RingLines.{HasEntries}
 use Rattle.trace_views.proofs.RingEntries.{has-entries}
 use Rattle.trace_print.proofs.KeptLaws.{own-enough}
-use Rattle.ft_app.proofs.KeptRings.{all-enough, replied-all}
+use Rattle.ft_app.proofs.HistoryRings.{all-enough, replied-all}
 use Rattle.ft_app.proofs.printed.write_printed.Goals as goal
 
 pub write_kept-requires-clause-enough : goal.write_kept-requires-clause-enough

@@ -3,7 +3,7 @@ use Rattle.ft_base.specs.declared.item.Item.{Item}
 use Rattle.ft_words.specs.declared.order.Order.TheVariants.{Run}
 use Rattle.script_jobs.proofs.LaneOrders.{no-lanes}
 use Rattle.ft_app.specs.Reply.{IsKeptFor, IsRunOf}
-use Rattle.ft_app.proofs.KeptRings.{all-kept, none-kept}
+use Rattle.ft_app.proofs.HistoryRings.{all-kept, none-kept}
 use Rattle.ft_app.proofs.Merges.{in-lanes, whole-run, without-lanes}
 use Rattle.ft_app.proofs.run.run.Goals as goal
 

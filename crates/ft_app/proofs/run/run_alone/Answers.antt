@@ -1,5 +1,5 @@
 use Rattle.std.proofs.Common.{None, refl}
-use Rattle.ft_app.proofs.KeptRings.{none-kept}
+use Rattle.ft_app.proofs.HistoryRings.{none-kept}
 use Rattle.ft_app.proofs.run.run_alone.Goals as goal
 
 pub returns : goal.returns

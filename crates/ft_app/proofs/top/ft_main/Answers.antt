@@ -5,7 +5,7 @@ use Rattle.ft_words.specs.Language.{Gives}
 use Rattle.trace_print.specs.Kept.{IsAllAnd}
 use Rattle.script_jobs.specs.Merges.{IsMergeOf}
 use Rattle.ft_app.specs.Reply.{IsKeptFor, IsRunOf}
-use Rattle.ft_app.proofs.KeptRings.{run-made}
+use Rattle.ft_app.proofs.HistoryRings.{run-made}
 use Rattle.ft_app.proofs.Ends.{by-number, given, no-memory-for-words, no-order}
 use Rattle.ft_app.proofs.top.ft_main.Goals as goal
 

@@ -1,6 +1,6 @@
 use Rattle.std.proofs.Common.{◌≡◌, ℕ, ◌<◌, length, get_or}
 use Rattle.ft_base.specs.Marks.{empty}
-use Rattle.ft_desk.specs.KeptRosters.{no_holder}
+use Rattle.ft_desk.specs.RosterInvariant.{no_holder}
 use Rattle.ft_desk.proofs.roster.new_holders.Given as goal
 
 abbrev pub invariant-loop-n : goal.invariant-loop-n

@@ -1,4 +1,4 @@
-use Rattle.ft_hist.proofs.ToldMore.{back-allowed, back-shallow}
+use Rattle.ft_hist.proofs.ItemLaws.{back-allowed, back-shallow}
 use Rattle.ft_hist.proofs.theorems.called_back_within_the_rules.Goals as goal
 
 pub returns-clause-pid : goal.returns-clause-pid

@@ -1,4 +1,4 @@
-use Rattle.ft_hist.proofs.ToldMore.{inner-returns}
+use Rattle.ft_hist.proofs.ItemLaws.{inner-returns}
 use Rattle.ft_hist.proofs.theorems.calls_nest.Goals as goal
 
 pub returns : goal.returns

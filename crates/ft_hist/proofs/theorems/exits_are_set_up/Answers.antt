@@ -1,4 +1,4 @@
-use Rattle.ft_hist.proofs.ToldExits.{exit-set-up}
+use Rattle.ft_hist.proofs.ExitItems.{exit-set-up}
 use Rattle.ft_hist.proofs.theorems.exits_are_set_up.Goals as goal
 
 pub returns : goal.returns

@@ -1,4 +1,4 @@
-use Rattle.ft_hist.proofs.ToldExits.{exit-of}
+use Rattle.ft_hist.proofs.ExitItems.{exit-of}
 use Rattle.ft_hist.proofs.theorems.exits_belong_to_their_registration.Goals as goal
 
 pub returns : goal.returns

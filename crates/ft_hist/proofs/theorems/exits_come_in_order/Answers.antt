@@ -1,4 +1,4 @@
-use Rattle.ft_hist.proofs.ToldExits.{exit-after}
+use Rattle.ft_hist.proofs.ExitItems.{exit-after}
 use Rattle.ft_hist.proofs.theorems.exits_come_in_order.Goals as goal
 
 pub returns : goal.returns

@@ -1,4 +1,4 @@
-use Rattle.ft_hist.proofs.ToldExits.{exit-or-why}
+use Rattle.ft_hist.proofs.ExitItems.{exit-or-why}
 use Rattle.ft_hist.proofs.theorems.exits_lack_only_for_a_reason.Goals as goal
 
 pub returns : goal.returns

@@ -1,4 +1,4 @@
-use Rattle.ft_hist.proofs.Told.{ran-target}
+use Rattle.ft_hist.proofs.ItemOrders.{ran-target}
 use Rattle.ft_hist.proofs.theorems.fetches_a_target.Goals as goal
 
 pub returns : goal.returns

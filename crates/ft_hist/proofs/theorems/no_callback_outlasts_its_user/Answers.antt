@@ -1,4 +1,4 @@
-use Rattle.ft_hist.proofs.ToldExits.{ended-before}
+use Rattle.ft_hist.proofs.ExitItems.{ended-before}
 use Rattle.ft_hist.proofs.theorems.no_callback_outlasts_its_user.Goals as goal
 
 pub returns : goal.returns

@@ -1,4 +1,4 @@
-use Rattle.ft_hist.proofs.ToldMore.{depth-cause}
+use Rattle.ft_hist.proofs.ItemLaws.{depth-cause}
 use Rattle.ft_hist.proofs.theorems.refused_for_depth.Goals as goal
 
 pub returns : goal.returns

@@ -1,4 +1,4 @@
-use Rattle.ft_hist.proofs.ToldMore.{pid-cause}
+use Rattle.ft_hist.proofs.ItemLaws.{pid-cause}
 use Rattle.ft_hist.proofs.theorems.refused_for_its_pid.Goals as goal
 
 pub returns : goal.returns

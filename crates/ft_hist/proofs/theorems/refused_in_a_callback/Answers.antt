@@ -1,4 +1,4 @@
-use Rattle.ft_hist.proofs.ToldMore.{recursion-cause, back-free}
+use Rattle.ft_hist.proofs.ItemLaws.{recursion-cause, back-free}
 use Rattle.ft_hist.proofs.theorems.refused_in_a_callback.Goals as goal
 
 pub returns-clause-refuse : goal.returns-clause-refuse

@@ -1,4 +1,4 @@
-use Rattle.ft_hist.proofs.ToldMore.{true-caller, ret-once}
+use Rattle.ft_hist.proofs.ItemLaws.{true-caller, ret-once}
 use Rattle.ft_hist.proofs.theorems.returns_reach_their_callers.Goals as goal
 
 pub returns-clause-caller : goal.returns-clause-caller

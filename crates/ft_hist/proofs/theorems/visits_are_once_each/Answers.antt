@@ -1,4 +1,4 @@
-use Rattle.ft_hist.proofs.Told.{once}
+use Rattle.ft_hist.proofs.ItemOrders.{once}
 use Rattle.ft_hist.proofs.theorems.visits_are_once_each.Goals as goal
 
 pub returns : goal.returns

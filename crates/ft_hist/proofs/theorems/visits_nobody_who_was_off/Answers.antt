@@ -1,4 +1,4 @@
-use Rattle.ft_hist.proofs.Told.{at_x, was-on}
+use Rattle.ft_hist.proofs.ItemOrders.{at_x, was-on}
 use Rattle.ft_base.specs.declared.item.Item.TheVariants.{Back, Refuse}
 use Rattle.ft_hist.proofs.theorems.visits_nobody_who_was_off.Goals as goal
 

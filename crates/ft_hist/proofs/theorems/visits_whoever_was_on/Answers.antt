@@ -1,4 +1,4 @@
-use Rattle.ft_hist.proofs.Told.{who-was-on}
+use Rattle.ft_hist.proofs.ItemOrders.{who-was-on}
 use Rattle.ft_hist.proofs.theorems.visits_whoever_was_on.Goals as goal
 
 pub returns : goal.returns

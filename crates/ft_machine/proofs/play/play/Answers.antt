@@ -1,7 +1,7 @@
 use Rattle.std.proofs.Common.{sym, subst, ap, ◌∙◌, refl}
 use Rattle.ft_base.proofs.Small.{on-err}
 use Rattle.word_machine.specs.Machine.{World, step}
-use Rattle.ft_machine.specs.Kept.{IsAt}
+use Rattle.ft_machine.specs.MachineStates.{IsAt}
 use Rattle.ft_machine.proofs.MachineLaws.{at-ends}
 use Rattle.ft_machine.proofs.PlayLaws.{goes_on, play-grows, stops_over, stops_used_up}
 use Rattle.ft_machine.proofs.play.play.Goals as goal

@@ -1,7 +1,7 @@
 use Rattle.std.proofs.Common.{◌≡◌, length}
 use Rattle.ft_base.specs.Job.{Job}
 use Rattle.word_machine.specs.Machine.{World, played}
-use Rattle.ft_machine.specs.Kept.{IsAt}
+use Rattle.ft_machine.specs.MachineStates.{IsAt}
 use Rattle.ft_machine.proofs.play.play.Given as goal
 
 -- the world and the taker are at a state from which the rest of the actors come to the same as all from the first one, and there is room

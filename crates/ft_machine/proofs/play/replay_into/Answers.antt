@@ -8,7 +8,7 @@ use Rattle.ft_base.proofs.Small.{on-err}
 use Rattle.ft_hist.proofs.Laws.{none-legal}
 use Rattle.word_machine.specs.Machine.{World, play, played, start}
 use Rattle.ft_machine.specs.Worlds.{Parts}
-use Rattle.ft_machine.specs.Kept.{IsAt}
+use Rattle.ft_machine.specs.MachineStates.{IsAt}
 use Rattle.ft_machine.proofs.MachineLaws.{at-ends, starts-at, whole}
 use Rattle.ft_machine.proofs.PlayLaws.{all-actors, play-is}
 use Rattle.ft_machine.proofs.play.replay_into.Goals as goal

@@ -5,7 +5,7 @@ use Rattle.word_machine.specs.Laws.{Runs}
 use Rattle.word_machine.specs.Limits.{IsLimited}
 use Rattle.word_machine.specs.Machine.{World, step}
 use Rattle.ft_machine.specs.Worlds.{IsFor, Parts, marked_on, world_of}
-use Rattle.ft_machine.specs.Kept.{IsAt}
+use Rattle.ft_machine.specs.MachineStates.{IsAt}
 use Rattle.ft_machine.proofs.MachineLaws.{step-legal, step-past, steps-at}
 use Rattle.ft_machine.proofs.play.step_into.Goals as goal
 use Rattle.ft_base.specs.declared.turn.Actor.{Actor}

@@ -2,10 +2,10 @@ use Rattle.std.proofs.Common.{length, map, refl}
 use Rattle.ft_base.specs.Job.{Job, funcs}
 use Rattle.word_map.specs.Shapes.{shape_of}
 use Rattle.ft_desk.specs.Declarations.{Declared, bare}
-use Rattle.ft_desk.specs.Seen.{opened}
+use Rattle.ft_desk.specs.DeskView.{opened}
 use Rattle.ft_machine.specs.Starts.{AreListsOf}
 use Rattle.ft_machine.proofs.Opening.{declared-lists}
-use Rattle.ft_machine.specs.Kept.{limits_for}
+use Rattle.ft_machine.specs.MachineStates.{limits_for}
 use Rattle.ft_machine.proofs.Declared.{declares}
 use Rattle.ft_machine.proofs.start.most_items.Goals as goal
 use Rattle.ft_machine.proofs.start.most_items.Goals.{After-task_limits}

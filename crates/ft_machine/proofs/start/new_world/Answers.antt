@@ -4,7 +4,7 @@ use Rattle.word_map.specs.Shapes.{shape_of}
 use Rattle.word_machine.specs.Machine.{start}
 use Rattle.ft_machine.specs.Starts.{AreFirst}
 use Rattle.ft_machine.specs.Worlds.{Declares, IsFor, Parts, world_of}
-use Rattle.ft_machine.specs.Kept.{limits_for}
+use Rattle.ft_machine.specs.MachineStates.{limits_for}
 use Rattle.ft_machine.proofs.Declared.{declares}
 use Rattle.ft_machine.proofs.start.new_world.Goals as goal
 use Rattle.ft_machine.proofs.start.new_world.Goals.{After-task_limits}

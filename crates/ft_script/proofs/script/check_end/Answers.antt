@@ -1,7 +1,7 @@
 use Rattle.std.proofs.Common.{refl, subst, inr}
 use Rattle.script_waits.specs.Tasks.{tracks_of}
 use Rattle.script_waits.specs.Greedy.{IsDeadlock}
-use Rattle.ft_script.specs.Kept.{above_of}
+use Rattle.ft_script.specs.ReaderInvariant.{above_of}
 use Rattle.ft_script.specs.Script.{control_of}
 use Rattle.ft_script.proofs.script.check_end.Goals as goal
 

@@ -1,6 +1,6 @@
 use Rattle.std.proofs.Common.{◌∙◌}
 use Rattle.ft_job.specs.Parts.{parts_of}
-use Rattle.ft_script.specs.Kept.{above_of}
+use Rattle.ft_script.specs.ReaderInvariant.{above_of}
 use Rattle.ft_script.proofs.JobLaws.{job-is, is_within}
 use Rattle.ft_script.proofs.script.make_job.Goals as goal
 

@@ -3,7 +3,7 @@ use Rattle.std.proofs.lemmas.Result.{err_from_is_err_and}
 use Rattle.script_text.specs.Lines.{Line, lines_of}
 use Rattle.ft_script.specs.Above.{Above}
 use Rattle.ft_script.specs.Script.{refusal_below, declared_after}
-use Rattle.ft_script.specs.Kept.{above_of}
+use Rattle.ft_script.specs.ReaderInvariant.{above_of}
 use Rattle.ft_script.proofs.Ends.{no_lines, refused-more, refused-here, declared-more, lines-more}
 use Rattle.ft_script.proofs.Lines.{HoldsAbove, line-holds, none-holds, closed-at_end}
 use Rattle.ft_script.proofs.script.read_lines.Goals as goal

@@ -1,6 +1,6 @@
 use Rattle.std.proofs.Common.{◌≡◌, ◌++◌, length, map}
 use Rattle.glob_filter.specs.Items.{ranges_of}
-use Rattle.glob_filter.specs.Kept.{bounds_of}
+use Rattle.glob_filter.specs.TokenItems.{bounds_of}
 use Rattle.glob_filter.proofs.parse.read_ranges.Given as goal
 
 abbrev pub invariant-loop-rest : goal.invariant-loop-rest

@@ -1,7 +1,7 @@
 use Rattle.std.proofs.Common.{◌≡◌, ◌∷◌, refl, sym, ap, subst, arith}
 use Rattle.glob_filter.specs.Items.{star}
 use Rattle.glob_filter.specs.Places.{IsFilled}
-use Rattle.glob_filter.specs.Kept.{item_of}
+use Rattle.glob_filter.specs.TokenItems.{item_of}
 use Rattle.glob_filter.proofs.PlaceLemmas.{not-star, IsFilled-star, IsFilled-one}
 use Rattle.glob_filter.proofs.places.put_before.Goals as goal
 

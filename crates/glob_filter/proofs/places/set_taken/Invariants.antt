@@ -1,6 +1,6 @@
 use Rattle.std.proofs.Common.{◌≡◌, ℕ, ◌<◌, ◌==◌, ◌&&◌, ◌||◌, nat_lt}
-use Rattle.glob_filter.specs.Fits.{takes}
-use Rattle.glob_filter.specs.Kept.{item_of}
+use Rattle.glob_filter.specs.Matching.{takes}
+use Rattle.glob_filter.specs.TokenItems.{item_of}
 use Rattle.glob_filter.specs.Places.{has_byte}
 use Rattle.glob_filter.proofs.places.set_taken.Given as goal
 

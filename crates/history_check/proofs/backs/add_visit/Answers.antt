@@ -1,8 +1,8 @@
 -- The set after an insert has the key of the visit, and the keys that it had.
 use Rattle.std.proofs.Common.{◌&&◌, ◌==◌, ◌∙◌}
 use Rattle.ft_base.specs.Same.{same_call}
-use Rattle.history_check.specs.KeptBacks.{is_visit_in}
-use Rattle.history_check.proofs.KeptMaps.{cond-true}
+use Rattle.history_check.specs.CallbackCheck.{is_visit_in}
+use Rattle.history_check.proofs.CheckMaps.{cond-true}
 use Rattle.history_check.proofs.backs.add_visit.Goals as goal
 
 pub returns-in-Ok-clause-kept : goal.returns-in-Ok-clause-kept

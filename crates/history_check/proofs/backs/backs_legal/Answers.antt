@@ -2,7 +2,7 @@
 use Rattle.std.proofs.Common.{refl, sym, ◌∙◌, subst, arith}
 use Rattle.history_check.specs.Backs.{AreBacksLegalPast}
 use Rattle.ft_hist.specs.Telling.{past_at}
-use Rattle.history_check.specs.KeptBacks.{IsCheck}
+use Rattle.history_check.specs.CallbackCheck.{IsCheck}
 use Rattle.ft_hist.proofs.Splitting.{past-more}
 use Rattle.history_check.proofs.PastLaws.{all-keep, begun-room, done-room, item-keeps, more-keeps, none-breaks}
 use Rattle.history_check.proofs.backs.backs_legal.Goals as goal

@@ -1,6 +1,6 @@
 use Rattle.history_check.specs.Backs.{AreBacksLegalPast}
 use Rattle.ft_hist.specs.Telling.{past_at}
-use Rattle.history_check.specs.KeptBacks.{IsCheck}
+use Rattle.history_check.specs.CallbackCheck.{IsCheck}
 use Rattle.history_check.proofs.backs.backs_legal.Given as goal
 
 -- the items so far keep the rules, and what is kept is what they tell

@@ -3,8 +3,8 @@ use Rattle.std.proofs.Common.{ap, ◌∙◌}
 use Rattle.std.specs.Prelude.{unwrap_or}
 use Rattle.std.specs.HashMap.{get}
 use Rattle.ft_base.specs.Same.{same_call}
-use Rattle.history_check.specs.KeptBacks.{no_entry, same_key}
-use Rattle.history_check.proofs.KeptMaps.{unwrap-cond}
+use Rattle.history_check.specs.CallbackCheck.{no_entry, same_key}
+use Rattle.history_check.proofs.CheckMaps.{unwrap-cond}
 use Rattle.history_check.proofs.backs.keep.Goals as goal
 
 pub returns-in-Ok : goal.returns-in-Ok

@@ -11,11 +11,11 @@ use Rattle.ft_base.proofs.Small.{each-pushed}
 use Rattle.ft_desk.proofs.JobLaws.{answer-is}
 use Rattle.ft_desk.proofs.LineLaws.{line-at, planned}
 use Rattle.history_check.specs.declared.desks.Row.{Row}
-use Rattle.history_check.specs.KeptDesks.{IsRowOf}
-use Rattle.history_check.specs.KeptTold.{IsTold}
+use Rattle.history_check.specs.DeskRows.{IsRowOf}
+use Rattle.history_check.specs.DeskNumbers.{AreNumbersOf}
 use Rattle.ft_job.proofs.DeskLaws.{command-next, commands-next, counted-next, counted-over, counted-wait, declared-next, few-planned, new-commands, new-state, state-next}
-use Rattle.history_check.proofs.KeptDesks.{first-made, next-made}
-use Rattle.history_check.proofs.ToldLaws.{told-after}
+use Rattle.history_check.proofs.DeskRowLaws.{first-made, next-made}
+use Rattle.history_check.proofs.DeskNumberLaws.{numbers-after}
 use Rattle.history_check.proofs.desks.rows_of.Goals as goal
 use Rattle.history_check.proofs.desks.rows_of.Goals.{in-Run+in_ok-next+in_ok-map_err-2, in_default}
 
@@ -31,7 +31,7 @@ loop-line-init c =
       counted = none;
       state = λ job is lines. new-state s new job is;
       size = omega (arith, none);
-      told' = subst (λ n. IsTold s.declared.tasks s.state n c.args.told) (sym none) c.requires.told;
+      told' = subst (λ n. AreNumbersOf s.declared.tasks s.state n c.args.told) (sym none) c.requires.told;
       each = λ job is lines. first-made job s is new c.in_ok-first.first made.row made.answer made.off;
     })
 
@@ -59,8 +59,8 @@ new-requires-in-Run c =
     let at = line-at c.args.lines.now c.args.lines.now c.loop-line.line-index c.line-item.result (Run c.in-Run.command) refl c.loop-line-test.true c.line-item.is c.in-Run.is in
     let kept = declared-next c.args.present.declared c.args.lines.now c.loop-line.line-index was h.declared h.counted c.in-Run.command at next then in (
       next.commands,
-      subst (λ n. IsTold n next.state next.commands c.note.new.self) (ap (λ (d : Declared). d.tasks) (sym kept))
-          (told-after was next c.args.present.declared.tasks c.in-Run.command c.plan-answer.result c.loop-line.told c.note.new.self (ap (λ (d : Declared). d.tasks) h.declared)
+      subst (λ n. AreNumbersOf n next.state next.commands c.note.new.self) (ap (λ (d : Declared). d.tasks) (sym kept))
+          (numbers-after was next c.args.present.declared.tasks c.in-Run.command c.plan-answer.result c.loop-line.told c.note.new.self (ap (λ (d : Declared). d.tasks) h.declared)
           c.plan-answer.ensures.answer then h.told' c.note.ensures),
     )
 
@@ -87,7 +87,7 @@ loop-line-preserved c =
           let before = h.size in
           rw (w.present-is, w.told-is, items) (record {
             told' =
-                told-after was next old.tasks x w.plan-answer.result c.loop-line.told w.note.new.self (ap (λ (d : Declared). d.tasks) h.declared)
+                numbers-after was next old.tasks x w.plan-answer.result c.loop-line.told w.note.new.self (ap (λ (d : Declared). d.tasks) h.declared)
                 w.plan-answer.ensures.answer then h.told' w.note.ensures;
             declared = kept;
             counted = counted-next old xs i was h.declared h.counted x at next then;

@@ -3,7 +3,7 @@ use Rattle.std.proofs.lemmas.List.{length_push}
 use Rattle.ft_base.specs.Desk.{user_at}
 use Rattle.ft_base.proofs.Small.{each-pushed}
 use Rattle.history_check.specs.declared.desks.Sight.{Sight}
-use Rattle.history_check.specs.KeptDesks.{IsSightOf}
+use Rattle.history_check.specs.DeskRows.{IsSightOf}
 use Rattle.history_check.proofs.desks.sights.Goals as goal
 
 pub loop-u-preserved : goal.loop-u-preserved

@@ -2,7 +2,7 @@ use Rattle.std.proofs.Common.{◌≡◌, ℕ, length, Some}
 use Rattle.std.specs.Prelude.{slice_get}
 use Rattle.ft_base.specs.Desk.{user_at}
 use Rattle.history_check.specs.declared.desks.Sight.{Sight}
-use Rattle.history_check.specs.KeptDesks.{IsSightOf}
+use Rattle.history_check.specs.DeskRows.{IsSightOf}
 use Rattle.history_check.proofs.desks.sights.Given as goal
 
 -- the users below this one are there

@@ -5,7 +5,7 @@ use Rattle.ft_hist.specs.Rules.{IsLegalPast}
 use Rattle.ft_hist.specs.Telling.{past_at}
 use Rattle.ft_hist.proofs.Laws.{none-legal}
 use Rattle.ft_hist.proofs.Splitting.{past-more}
-use Rattle.history_check.specs.KeptPast.{IsPast}
+use Rattle.history_check.specs.JudgePast.{IsPast}
 use Rattle.history_check.specs.Verdicts.{IsBroken}
 use Rattle.history_check.proofs.JudgeVerdicts.{all-legal, all-whole, at-end, broken-there, more-legal}
 use Rattle.history_check.proofs.PastLaws.{length-past}

@@ -1,6 +1,6 @@
 use Rattle.ft_hist.specs.Rules.{IsLegalPast}
 use Rattle.ft_hist.specs.Telling.{past_at}
-use Rattle.history_check.specs.KeptPast.{IsPast}
+use Rattle.history_check.specs.JudgePast.{IsPast}
 use Rattle.history_check.proofs.judging.judge.Given as goal
 
 -- the items so far are legal, and what is kept is what they tell

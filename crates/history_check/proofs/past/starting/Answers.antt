@@ -4,9 +4,9 @@ use Rattle.std.proofs.lemmas.List.{length_push}
 use Rattle.std.proofs.lemmas.Option.{slice_get_within}
 use Rattle.ft_base.specs.declared.task.TaskAct.{TaskAct}
 use Rattle.ft_base.proofs.Small.{each-pushed}
-use Rattle.history_check.specs.KeptRuns.{starting}
+use Rattle.history_check.specs.PlainRuns.{starting}
 use Rattle.history_check.specs.declared.task_past.TaskPast.{TaskPast}
-use Rattle.history_check.specs.KeptCalls.{IsTaskPast}
+use Rattle.history_check.specs.TaskCalls.{IsTaskPast}
 use Rattle.history_check.proofs.JudgeStart.{few-acts, no-task-there, started, task-there}
 use Rattle.history_check.proofs.past.starting.Goals as goal
 

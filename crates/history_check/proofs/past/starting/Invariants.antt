@@ -1,7 +1,7 @@
 use Rattle.std.proofs.Common.{◌≡◌, ℕ, ◌-◌, ◌≤◌, [], length, Some}
 use Rattle.std.specs.Prelude.{slice_get}
 use Rattle.history_check.specs.declared.task_past.TaskPast.{TaskPast}
-use Rattle.history_check.specs.KeptCalls.{IsTaskPast}
+use Rattle.history_check.specs.TaskCalls.{IsTaskPast}
 use Rattle.history_check.proofs.past.starting.Given as goal
 
 -- the tasks below this one are there

@@ -1,6 +1,6 @@
 use Rattle.std.proofs.Common.{◌≡◌, ℕ, length}
 use Rattle.ft_desk.specs.Lines.{lines_of}
-use Rattle.history_check.specs.KeptPast.{lines_after}
+use Rattle.history_check.specs.JudgePast.{lines_after}
 use Rattle.history_check.proofs.take_in.after_command.Given as goal
 
 -- the next command is the same from here on

@@ -5,7 +5,7 @@ use Rattle.word_machine.specs.Limits.{IsLimited}
 use Rattle.script_jobs.proofs.LaneOrders.{no-lanes, some-lanes}
 use Rattle.log_reader.specs.Lanes.{lanes_named}
 use Rattle.judge_app.specs.Lanes.{told_order}
-use Rattle.judge_app.proofs.ToldJobs.{all-told, lanes-few, led-alone, led-merged}
+use Rattle.judge_app.proofs.LogJobs.{all-told, lanes-few, led-alone, led-merged}
 use Rattle.judge_app.proofs.lanes.led_by.Goals as goal
 
 pub order_told-requires : goal.order_told-requires

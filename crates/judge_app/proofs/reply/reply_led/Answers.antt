@@ -1,6 +1,6 @@
 use Rattle.std.proofs.Common.{subst, sym}
 use Rattle.trace_lines.specs.LogItems.{IsNamedApart}
-use Rattle.judge_app.proofs.ToldJobs.{named-led}
+use Rattle.judge_app.proofs.LogJobs.{named-led}
 use Rattle.judge_app.proofs.reply.reply_led.Goals as goal
 
 pub reply_for-requires-clause-named : goal.reply_for-requires-clause-named

@@ -1,5 +1,5 @@
 use Rattle.std.proofs.Common.{ℕ, ◌≤◌, drop}
-use Rattle.task_core.specs.Steady.{StaysWithin}
+use Rattle.task_core.specs.TaskInvariant.{StaysWithin}
 use Rattle.task_core.proofs.task.deepest.Given as goal
 
 -- no more calls are open than acts were seen, nor more than the most so far; and whatever limit the acts to come stay within, all acts do

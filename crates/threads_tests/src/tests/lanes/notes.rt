@@ -18,14 +18,14 @@ pub struct Notes {
 
 impl Model for Notes {
     ghost use Rattle.std.specs.Prelude.{[], vec_capacity};
-    ghost use Rattle.desk_lock.specs.Held.{IsHeld, lanes_from};
+    ghost use Rattle.desk_lock.specs.LockInvariant.{LockInvariant, lanes_from};
     ghost use Rattle.threads_tests.specs.Noted.{Noted};
 
     ghost Value = { Noted };
 
     ghost view = { λ n. record { counts = n.counts.items; served = n.served.items } };
 
-    ghost invariant = { λ n. IsHeld n.counts.items [] n.counts.items [] n.served.items n.served.items (lanes_from 0 n.counts.items n.served.items) (vec_capacity n.served) };
+    ghost invariant = { λ n. LockInvariant n.counts.items [] n.counts.items [] n.served.items n.served.items (lanes_from 0 n.counts.items n.served.items) (vec_capacity n.served) };
 }
 
 impl Served for Notes {

@@ -4,7 +4,7 @@ use Rattle.ft_base.specs.Job.{Job, ModuleRow, funcs}
 use Rattle.ft_words.specs.declared.order.Form.TheVariants as forms
 use Rattle.trace_views.specs.EnabledText.{enabled_line_text, enabled_lines}
 use Rattle.trace_views.specs.FunctionViews.{HasFunction}
-use Rattle.trace_views.specs.KeptCalls.{function_line_text}
+use Rattle.trace_views.specs.OpenCalls.{function_line_text}
 use Rattle.trace_views.specs.ModulesText.{module_line, module_line_text, row_of_line}
 use Rattle.trace_views.specs.ProfileText.{profile_line_text}
 use Rattle.trace_views.specs.ProfileViews.{HasProfile}

@@ -1,6 +1,6 @@
 -- The first triggers are copied, and there is room for the others.
 use Rattle.std.proofs.Common.{◌≡◌, ◌≤◌, length, map, take, vec_capacity, vec_len}
-use Rattle.filter_commands.specs.Kept.{plain_trigger}
+use Rattle.filter_commands.specs.Meanings.{plain_trigger}
 use Rattle.trace_rings.proofs.plan.copy_triggers.Given as goal
 
 abbrev pub invariant-loop-trigger : goal.invariant-loop-trigger

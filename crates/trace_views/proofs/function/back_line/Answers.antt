@@ -1,4 +1,4 @@
-use Rattle.trace_views.specs.KeptCalls.{stacks_in}
+use Rattle.trace_views.specs.OpenCalls.{stacks_in}
 use Rattle.trace_views.specs.TaskStacks.{stack_at}
 use Rattle.trace_views.proofs.FollowLaws.{back-open, some-open}
 use Rattle.trace_views.proofs.FunctionLines.{back-line}

@@ -1,5 +1,5 @@
 use Rattle.ft_hist.specs.Telling.{past_at}
-use Rattle.trace_views.specs.KeptCalls.{IsFollowed}
+use Rattle.trace_views.specs.OpenCalls.{IsFollowed}
 use Rattle.trace_views.specs.RingLines.{AreBackLines}
 use Rattle.trace_views.proofs.function.back_lines.Given as goal
 

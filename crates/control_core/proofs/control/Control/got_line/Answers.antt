@@ -2,7 +2,7 @@ use Rattle.std.proofs.Common.{ℕ, ◌+◌, ◌<◌, ◌≤◌, None, subst, ari
 use Rattle.ft_desk.specs.declared.command.Ctl.TheVariants.{Run, Until}
 use Rattle.ft_desk.specs.Commands.{command_of}
 use Rattle.control_core.specs.declared.phase.Phase.TheVariants as phase
-use Rattle.control_core.proofs.Kept.{phase-seen}
+use Rattle.control_core.proofs.ControlFields.{phase-seen}
 use Rattle.ft_desk.proofs.LineLaws.{planned}
 use Rattle.control_core.proofs.Lines.{present-at, line-none, line-over, line-run, line-waits, present-is, run-in, run-kept, run-plan}
 use Rattle.control_core.proofs.control.Control.got_line.Goals as goal

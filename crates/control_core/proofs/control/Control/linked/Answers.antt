@@ -1,7 +1,7 @@
 use Rattle.std.proofs.Common.{ap}
 use Rattle.control_core.specs.declared.phase.Phase.TheVariants as phase
-use Rattle.control_core.specs.Kept.{asked, busy}
-use Rattle.control_core.proofs.Kept.{patch-go, phase-seen}
+use Rattle.control_core.specs.ControlInvariant.{asked, busy}
+use Rattle.control_core.proofs.ControlFields.{patch-go, phase-seen}
 use Rattle.control_core.proofs.control.Control.linked.Goals as goal
 
 pub invariant_of-self-else-is_some : goal.invariant_of-self-else-is_some

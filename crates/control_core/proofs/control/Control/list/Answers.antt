@@ -1,4 +1,4 @@
-use Rattle.control_core.proofs.Kept.{asked-seen, busy-seen, list-go}
+use Rattle.control_core.proofs.ControlFields.{asked-seen, busy-seen, list-go}
 use Rattle.control_core.proofs.control.Control.list.Goals as goal
 
 pub invariant_of-self : goal.invariant_of-self

@@ -3,8 +3,8 @@ use Rattle.site_bytes.specs.declared.insn.SiteChange.{SiteChange}
 use Rattle.patch_core.specs.Moves.{batch_next, is_store}
 use Rattle.ft_desk.specs.Plans.{plain_plan}
 use Rattle.control_core.specs.declared.phase.Phase.TheVariants as phase
-use Rattle.control_core.specs.Kept.{busy}
-use Rattle.control_core.proofs.Kept.{batch-go, phase-seen, store-go, store-seen}
+use Rattle.control_core.specs.ControlInvariant.{busy}
+use Rattle.control_core.proofs.ControlFields.{batch-go, phase-seen, store-go, store-seen}
 use Rattle.control_core.proofs.Nexts.{left-at}
 use Rattle.control_core.proofs.control.Control.patched.Goals as goal
 

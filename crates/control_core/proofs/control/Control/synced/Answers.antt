@@ -1,4 +1,4 @@
-use Rattle.control_core.proofs.Kept.{batch-go, busy-seen, made-seen}
+use Rattle.control_core.proofs.ControlFields.{batch-go, busy-seen, made-seen}
 use Rattle.control_core.proofs.control.Control.synced.Goals as goal
 
 pub invariant_of-self : goal.invariant_of-self

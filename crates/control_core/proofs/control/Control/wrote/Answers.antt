@@ -2,7 +2,7 @@ use Rattle.std.proofs.Common.{true, false, ◌∙◌}
 use Rattle.word_map.specs.Ops.{placed}
 use Rattle.control_core.specs.declared.phase.Phase.TheVariants as phase
 use Rattle.control_core.specs.Steps.{write_next}
-use Rattle.control_core.proofs.Kept.{page-go, phase-seen}
+use Rattle.control_core.proofs.ControlFields.{page-go, phase-seen}
 use Rattle.control_core.proofs.Pages.{test-is, wrote-last, wrote-more}
 use Rattle.control_core.proofs.control.Control.wrote.Goals as goal
 

@@ -1,6 +1,6 @@
 use Rattle.std.proofs.Common.{◌≡◌, ◌∙◌, ap, sym, subst}
 use Rattle.cpu_core.specs.declared.parts.Parts.{Parts}
-use Rattle.cpu_core.specs.CpuFits.{CpuFits, HasNext}
+use Rattle.cpu_core.specs.CpuNeeds.{CpuFits, HasNext}
 use Rattle.cpu_core.specs.CpuSteps.{stepped}
 use Rattle.cpu_core.specs.Cpus.{IsFor, cpu_of}
 use Rattle.cpu_core.proofs.CpuNext.{cpu-op-there}

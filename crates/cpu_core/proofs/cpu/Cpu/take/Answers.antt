@@ -4,7 +4,7 @@ use Rattle.word_machine.specs.Cpu.{cpu_next}
 use Rattle.word_machine.specs.Laws.{CpuTakes}
 use Rattle.word_machine.specs.Limits.{IsLimited}
 use Rattle.cpu_core.specs.declared.parts.Parts.{Parts}
-use Rattle.cpu_core.specs.CpuFits.{CpuFits, HasNext}
+use Rattle.cpu_core.specs.CpuNeeds.{CpuFits, HasNext}
 use Rattle.cpu_core.specs.CpuOps.{cpu_op}
 use Rattle.cpu_core.specs.CpuSteps.{stamped, stepped, unmarked}
 use Rattle.cpu_core.specs.Cpus.{IsFor, cpu_of}

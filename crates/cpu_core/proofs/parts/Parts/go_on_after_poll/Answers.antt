@@ -2,7 +2,7 @@
 use Rattle.std.proofs.Common.{◌≡◌, length, sym, arith}
 use Rattle.task_core.specs.TaskOps.{present}
 use Rattle.task_core.specs.TaskSteps.{begun}
-use Rattle.cpu_core.proofs.Told.{length-changed}
+use Rattle.cpu_core.proofs.TaskChanges.{length-changed}
 use Rattle.cpu_core.proofs.parts.Parts.go_on_after_poll.Goals as goal
 
 pub begin_act-requires : goal.begin_act-requires

@@ -1,7 +1,7 @@
 -- One more task has told.
 use Rattle.std.proofs.Common.{◌≡◌, ◌+◌, suc, ap, ◌∙◌, arith}
 use Rattle.cpu_core.specs.CpuSteps.{poll_on, ticked}
-use Rattle.cpu_core.proofs.Told.{begins-after, stored-told, told-after}
+use Rattle.cpu_core.proofs.TaskChanges.{begins-after, stored-told, told-after}
 use Rattle.cpu_core.proofs.parts.Parts.quiet_stored.Goals as goal
 
 pub tell-requires-2-clause-told : goal.tell-requires-2-clause-told

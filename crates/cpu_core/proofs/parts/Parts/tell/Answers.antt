@@ -1,6 +1,6 @@
 -- If none is to tell, the tasks are as they were.
 use Rattle.std.proofs.Common.{◌≡◌, true, sym, ap, ◌∙◌, subst}
-use Rattle.cpu_core.specs.CpuFits.{CanBeginAct}
+use Rattle.cpu_core.specs.CpuNeeds.{CanBeginAct}
 use Rattle.cpu_core.specs.CpuSteps.{after_poll, telling}
 use Rattle.cpu_core.specs.Turns.{any_left}
 use Rattle.cpu_core.proofs.parts.Parts.tell.Goals as goal

@@ -1,9 +1,9 @@
 -- A task whose act has begun may have changed.
 use Rattle.std.proofs.Common.{◌<◌, length, ap, arith}
 use Rattle.std.proofs.lemmas.List.{length-set}
-use Rattle.task_core.specs.Fits.{CanBegin, HasAct}
+use Rattle.task_core.specs.TaskNeeds.{CanBegin, HasAct}
 use Rattle.task_core.specs.TaskOps.{present}
-use Rattle.cpu_core.proofs.Told.{some-within, told-changed}
+use Rattle.cpu_core.proofs.TaskChanges.{some-within, told-changed}
 use Rattle.cpu_core.proofs.tasks.Tasks.begin_act.Goals as goal
 
 pub invariant_of-self : goal.invariant_of-self

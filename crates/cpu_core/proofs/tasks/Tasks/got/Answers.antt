@@ -1,8 +1,8 @@
 -- A task that has made a step may have changed.
 use Rattle.std.proofs.Common.{◌<◌, length, ap, arith}
 use Rattle.std.proofs.lemmas.List.{length-set}
-use Rattle.task_core.specs.Fits.{TaskFits}
-use Rattle.cpu_core.proofs.Told.{some-within, told-changed}
+use Rattle.task_core.specs.TaskNeeds.{TaskFits}
+use Rattle.cpu_core.proofs.TaskChanges.{some-within, told-changed}
 use Rattle.cpu_core.proofs.tasks.Tasks.got.Goals as goal
 
 pub invariant_of-self : goal.invariant_of-self

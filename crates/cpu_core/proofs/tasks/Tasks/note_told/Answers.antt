@@ -1,7 +1,7 @@
 -- Each task has told.
 use Rattle.std.proofs.Common.{◌≡◌, None, subst, sym}
 use Rattle.cpu_core.specs.Turns.{first_untold}
-use Rattle.cpu_core.proofs.Told.{told-all}
+use Rattle.cpu_core.proofs.TaskChanges.{told-all}
 use Rattle.cpu_core.proofs.tasks.Tasks.note_told.Goals as goal
 
 pub invariant_of-self : goal.invariant_of-self

@@ -4,7 +4,7 @@ use Rattle.std.proofs.lemmas.List.{length-set}
 use Rattle.grace_core.specs.Views.{told_word}
 use Rattle.task_core.specs.declared.task.Task.{Task}
 use Rattle.cpu_core.specs.Turns.{told_task}
-use Rattle.cpu_core.proofs.Told.{told-stored}
+use Rattle.cpu_core.proofs.TaskChanges.{told-stored}
 use Rattle.cpu_core.proofs.tasks.Tasks.tell.Goals as goal
 
 pub invariant_of-self : goal.invariant_of-self

@@ -3,7 +3,7 @@ use Rattle.std.proofs.lemmas.List.{get_or_default}
 use Rattle.desk_lock.specs.declared.served.Served1.{Served1}
 use Rattle.desk_lock.specs.declared.lane.Lane.{Lane}
 use Rattle.desk_lock.specs.Journals.{done_of, next_of, pair}
-use Rattle.desk_lock.specs.Held.{IsHeld}
+use Rattle.desk_lock.specs.LockInvariant.{LockInvariant}
 use Rattle.desk_lock.proofs.Keeping.{held_below, held_count, held_more, held_next, held_of, held_room, none_left}
 use Rattle.desk_lock.proofs.locked.Locked.advance.Goals as goal
 
@@ -63,7 +63,7 @@ invariant_of-self g c =
     c.index_mut.ensures.value
     ∙ get_or_default s.lanes.items c.args.lane c.index_mut.result.now c.index.result.now (let n = held_count c.self.invariant in omega (arith, n, c.requires))
     ∙ sym c.index.ensures in
-    subst (IsHeld g.N.LaneNames.counts g.N.LaneNames.name (g.T.Served.counts c.serve.new.self) (g.T.Served.name c.serve.new.self) (g.T.Served.served c.serve.new.self) c.push_reserved.new.self.items _)
+    subst (LockInvariant g.N.LaneNames.counts g.N.LaneNames.name (g.T.Served.counts c.serve.new.self) (g.T.Served.name c.serve.new.self) (g.T.Served.served c.serve.new.self) c.push_reserved.new.self.items _)
     (sym c.push_reserved.ensures.capacity)
     (held_more c.self.invariant c.requires c.index.ensures (omega (arith, below, differ)) e.counts e.name e.served c.push_reserved.ensures.items
     (ap (λ (l : Lane). set s.lanes.items c.args.lane (record { count = l.count; next = c.index.result.now.next + 1 })) same))

@@ -1,7 +1,7 @@
 use Rattle.std.proofs.Common.{◌≡◌, map, length, subst, sym, ◌∙◌, rules, arith}
 use Rattle.std.proofs.lemmas.List.{length-map}
 use Rattle.ft_base.specs.Marks.{empty}
-use Rattle.filter_commands.specs.Kept.{takes}
+use Rattle.filter_commands.specs.Meanings.{takes}
 use Rattle.filter_commands.proofs.SetLemmas.{IsUpTo, IsUpTo-empty, IsUpTo-end}
 use Rattle.filter_commands.proofs.selector.Selector.select.Goals as goal
 

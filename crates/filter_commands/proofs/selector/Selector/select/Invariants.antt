@@ -1,5 +1,5 @@
 use Rattle.std.proofs.Common.{map}
-use Rattle.filter_commands.specs.Kept.{takes}
+use Rattle.filter_commands.specs.Meanings.{takes}
 use Rattle.filter_commands.proofs.SetLemmas.{IsUpTo}
 use Rattle.filter_commands.proofs.selector.Selector.select.Given as goal
 

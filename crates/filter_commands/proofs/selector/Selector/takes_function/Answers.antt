@@ -1,6 +1,6 @@
 use Rattle.std.proofs.Common.{sym, ◌∙◌}
 use Rattle.std.specs.Option.{option_copied}
-use Rattle.filter_commands.specs.Kept.{takes}
+use Rattle.filter_commands.specs.Meanings.{takes}
 use Rattle.filter_commands.proofs.SetLemmas.{holds-map}
 use Rattle.filter_commands.proofs.selector.Selector.takes_function.Goals as goal
 

@@ -6,8 +6,8 @@ use Rattle.site_set.specs.Edits.{plain_edit}
 use Rattle.ft_desk.specs.declared.user.User.{User}
 use Rattle.ft_desk.specs.Commands.{edit_command}
 use Rattle.ft_desk.specs.Declarations.{job_of}
-use Rattle.ft_desk.specs.KeptRosters.{IsSized}
-use Rattle.ft_desk.specs.Seen.{Seen}
+use Rattle.ft_desk.specs.RosterInvariant.{IsSized}
+use Rattle.ft_desk.specs.DeskView.{DeskView}
 use Rattle.ft_desk.specs.Users.{user_of}
 use Rattle.ft_desk.proofs.ViewLaws.{edit-claims, edit-unmatched, edit-unbound, clear-not, clear-nothing, empty-not}
 use Rattle.ft_desk.proofs.desk.Desk.answer_to_edit.Goals as goal
@@ -36,7 +36,7 @@ returns-then-not-this-clause-answer c =
     ] in
     edit-unbound c.self.inside.roster.users c.self.inside.roster.funcs (length c.self.inside.pids.pids) (length c.self.inside.slots)
     c.self.inside.pids.pids c.self.inside.pids.nopids c.self.inside.depth c.args.user.0 c.args.half (plain_edit c.args.edit.now) unbound selects
-    ∙ ap (λ (s : Seen). answer_on (job_of s.declared) s.state (edit_command c.args.user.0 c.args.half (plain_edit c.args.edit.now))) c.self.view_is
+    ∙ ap (λ (s : DeskView). answer_on (job_of s.declared) s.state (edit_command c.args.user.0 c.args.half (plain_edit c.args.edit.now))) c.self.view_is
 
 pub returns-clause-answer : goal.returns-clause-answer
 returns-clause-answer c =
@@ -52,4 +52,4 @@ returns-clause-answer c =
     (sym (ap (λ (w : User). w.registered) x) ∙ c.if-not-this.false)
     (sym (ap (λ (w : User). is_some w.ipmodify) x) ∙ sym c.modifies.ensures ∙ c.if-not-modifies.false)
     selects
-    ∙ ap (λ (s : Seen). answer_on (job_of s.declared) s.state (edit_command c.args.user.0 c.args.half (plain_edit c.args.edit.now))) c.self.view_is
+    ∙ ap (λ (s : DeskView). answer_on (job_of s.declared) s.state (edit_command c.args.user.0 c.args.half (plain_edit c.args.edit.now))) c.self.view_is

@@ -3,7 +3,7 @@ use Rattle.ft_base.specs.Marks.{is_empty}
 use Rattle.ft_base.specs.Desk.{register_answer}
 use Rattle.ft_desk.specs.declared.user.User.{User}
 use Rattle.ft_desk.specs.Declarations.{job_of}
-use Rattle.ft_desk.specs.Seen.{Seen}
+use Rattle.ft_desk.specs.DeskView.{DeskView}
 use Rattle.ft_desk.proofs.ViewLaws.{register-claims}
 use Rattle.ft_desk.proofs.desk.Desk.answer_to_register.Goals as goal
 
@@ -17,4 +17,4 @@ returns-clause-answer c =
     (sym (ap (λ (w : User). is_some w.ipmodify) x) ∙ sym c.modifies.ensures ∙ c.if-not-modifies.false)
     (sym (ap (λ (w : User). w.regs) x) ∙ c.if-not-this.false)
     (sym (ap (λ (w : User). is_empty w.pair.filter) x) ∙ sym c.is_open.ensures ∙ c.if-is_open.false)
-    ∙ ap (λ (s : Seen). register_answer (job_of s.declared) s.state c.args.user.0) c.self.view_is
+    ∙ ap (λ (s : DeskView). register_answer (job_of s.declared) s.state c.args.user.0) c.self.view_is

@@ -2,7 +2,7 @@ use Rattle.std.proofs.Common.{sym, ap, ◌∙◌, length, map}
 use Rattle.pid_filter.specs.Lists.{PidLists}
 use Rattle.ft_base.specs.declared.number.UserNo.{UserNo}
 use Rattle.ft_desk.specs.Plans.{plain_plan}
-use Rattle.ft_desk.proofs.NewSeen.{new-desk, new-seen}
+use Rattle.ft_desk.proofs.NewViews.{new-desk, new-seen}
 use Rattle.ft_desk.proofs.desk.Desk.new.Goals as goal
 
 pub invariant_of-result : goal.invariant_of-result

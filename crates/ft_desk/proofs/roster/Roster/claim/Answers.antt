@@ -5,7 +5,7 @@ use Rattle.filter_hash.specs.Pair.{size_of}
 use Rattle.ft_desk.specs.declared.user.User.{User}
 use Rattle.ft_desk.specs.Users.{desk_by, no_user, user_of}
 use Rattle.ft_desk.specs.Rosters.{Users, job_by}
-use Rattle.ft_desk.specs.KeptRosters.{users_of}
+use Rattle.ft_desk.specs.RosterInvariant.{users_of}
 use Rattle.ft_desk.proofs.ClaimLaws.{claim-here}
 use Rattle.ft_desk.proofs.roster.Roster.claim.Goals as goal
 

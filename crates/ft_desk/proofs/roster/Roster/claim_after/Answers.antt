@@ -8,7 +8,7 @@ use Rattle.filter_hash.specs.Pair.{Pair, size_of}
 use Rattle.ft_desk.specs.declared.user.User.{User}
 use Rattle.ft_desk.specs.Users.{desk_by, edited_pair, no_user, user_of}
 use Rattle.ft_desk.specs.Rosters.{Users, claim_of, job_by}
-use Rattle.ft_desk.specs.KeptRosters.{users_of, IsSized}
+use Rattle.ft_desk.specs.RosterInvariant.{users_of, IsSized}
 use Rattle.ft_desk.proofs.ClaimLaws.{claim-here}
 use Rattle.ft_desk.proofs.EditLaws.{sized-edited}
 use Rattle.ft_desk.proofs.roster.Roster.claim_after.Goals as goal

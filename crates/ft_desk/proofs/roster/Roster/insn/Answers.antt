@@ -2,7 +2,7 @@ use Rattle.std.proofs.Common.{◌≡◌, ap, ◌∙◌, arith, length}
 use Rattle.ft_desk.specs.Rosters.{Users}
 use Rattle.word_map.specs.Instructions.{insn_at}
 use Rattle.ft_desk.specs.Users.{desk_by}
-use Rattle.ft_desk.proofs.KeptLaws.{insn-here, tells-here}
+use Rattle.ft_desk.proofs.RosterInvariantLaws.{insn-here, tells-here}
 use Rattle.ft_desk.proofs.roster.Roster.insn.Goals as goal
 
 pub insn_by-requires : goal.insn_by-requires

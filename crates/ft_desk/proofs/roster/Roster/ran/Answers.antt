@@ -2,7 +2,7 @@ use Rattle.std.proofs.Common.{◌≡◌, ap, ◌∙◌, arith, length}
 use Rattle.ft_desk.specs.Rosters.{Users}
 use Rattle.ft_base.specs.Desk.{target}
 use Rattle.ft_desk.specs.Users.{desk_by}
-use Rattle.ft_desk.proofs.KeptLaws.{ran-here, tells-here}
+use Rattle.ft_desk.proofs.RosterInvariantLaws.{ran-here, tells-here}
 use Rattle.ft_desk.proofs.roster.Roster.ran.Goals as goal
 
 pub ran_by-requires : goal.ran_by-requires

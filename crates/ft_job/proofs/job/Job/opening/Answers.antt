@@ -1,5 +1,5 @@
 use Rattle.std.proofs.Common.{◌≡◌, ◌∙◌, sym, ap}
-use Rattle.ft_desk.specs.Seen.{Seen, opened}
+use Rattle.ft_desk.specs.DeskView.{DeskView, opened}
 use Rattle.ft_job.proofs.JobLaws.{users-count, seen-lines}
 use Rattle.ft_job.proofs.Declared.{kept, is-of, shape-within, lines-in}
 use Rattle.ft_job.proofs.job.Job.opening.Goals as goal
@@ -18,7 +18,7 @@ desk-is c = (rw (c.as_slice.ensures.value, c.shape.ensures.counts) at c.in_ok-de
 pub returns-clause-opened : goal.returns-clause-opened
 returns-clause-opened c =
     let e = desk-is (goal.at.returns-clause-opened c).After-as_slice-2 in
-    e ∙ ap opened (sym (ap (λ (s : Seen). s.declared) e))
+    e ∙ ap opened (sym (ap (λ (s : DeskView). s.declared) e))
 
 pub returns-clause-declared : goal.returns-clause-declared
 returns-clause-declared c =

@@ -9,7 +9,7 @@ use Rattle.word_machine.specs.Laws.{Runs}
 use Rattle.word_machine.specs.Limits.{IsLimited}
 use Rattle.word_machine.specs.Machine.{step}
 use Rattle.ft_machine.specs.Worlds.{IsFor, Parts, marked_on, world_of}
-use Rattle.ft_machine.specs.Kept.{HasPast, IsMachineOf, past_in}
+use Rattle.ft_machine.specs.MachineStates.{HasPast, IsMachineOf, past_in}
 use Rattle.ft_machine.proofs.MachineLaws.{machine-has, push-room, stepped, stepped-state, takes}
 use Rattle.ft_machine.proofs.machine.Machine.step.Goals as goal
 use Rattle.ft_machine.proofs.machine.Machine.step.Goals.{After-push, In_default}

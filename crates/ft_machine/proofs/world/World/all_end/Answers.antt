@@ -4,7 +4,7 @@ use Rattle.std.specs.List.{AllWithin, HoldsAt}
 use Rattle.std.proofs.lemmas.Iterator.{cases_from_all, YieldsList-from_slice}
 use Rattle.word_machine.specs.Laws.{Runs}
 use Rattle.word_machine.specs.Machine.{all_end}
-use Rattle.ft_machine.specs.Fields.{parts_of}
+use Rattle.ft_machine.specs.WorldInvariant.{parts_of}
 use Rattle.ft_machine.specs.Worlds.{IsFor, Parts, world_of}
 use Rattle.ft_machine.proofs.Ends.{Ended, all-answer, all-at-end, control-told}
 use Rattle.ft_machine.proofs.world.World.all_end.Goals as goal

@@ -2,7 +2,7 @@ use Rattle.std.proofs.Common.{◌≡◌, Some, None, length, slice_get, refl, sy
 use Rattle.std.proofs.lemmas.Option.{slice_get_past, slice_get_read}
 use Rattle.word_machine.specs.Laws.{Runs}
 use Rattle.word_machine.specs.Machine.{is_at_end}
-use Rattle.ft_machine.specs.Fields.{parts_of}
+use Rattle.ft_machine.specs.WorldInvariant.{parts_of}
 use Rattle.ft_machine.specs.Worlds.{IsFor, Parts, world_of}
 use Rattle.ft_machine.proofs.Ends.{control-at-end, control-told, cpu-at-end, no-cpu-at-end}
 use Rattle.ft_machine.proofs.world.World.at_end.Goals as goal

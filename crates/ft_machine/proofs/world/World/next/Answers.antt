@@ -2,7 +2,7 @@ use Rattle.std.proofs.Common.{◌≡◌, ◌≤◌, Some, length, slice_get, opt
 use Rattle.std.proofs.lemmas.Option.{slice_get_read}
 use Rattle.word_map.specs.Ops.{placed}
 use Rattle.word_map.specs.Shapes.{shape_of}
-use Rattle.ft_machine.specs.Fields.{parts_of}
+use Rattle.ft_machine.specs.WorldInvariant.{parts_of}
 use Rattle.ft_machine.specs.Nexts.{next_op}
 use Rattle.ft_machine.specs.Worlds.{IsFor, Parts, world_of}
 use Rattle.ft_machine.proofs.Nexts.{control-next, cpu-next, no-cpu-next}

@@ -1,7 +1,7 @@
 use Rattle.std.proofs.Common.{◌≡◌, ◌∙◌, ◌≤◌, length, sym, ap, subst, arith}
 use Rattle.ft_base.specs.declared.turn.Actor.TheVariants as actor
 use Rattle.word_machine.specs.Machine.{step}
-use Rattle.ft_machine.specs.Fields.{parts_of}
+use Rattle.ft_machine.specs.WorldInvariant.{parts_of}
 use Rattle.ft_machine.specs.Worlds.{IsFor, Parts, world_of}
 use Rattle.ft_machine.proofs.Moved.{no-cpu}
 use Rattle.ft_machine.proofs.world.World.step.Goals as goal

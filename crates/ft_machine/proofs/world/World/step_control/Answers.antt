@@ -5,7 +5,7 @@ use Rattle.ft_base.specs.Job.{Job}
 use Rattle.word_machine.specs.Laws.{Runs}
 use Rattle.word_machine.specs.Limits.{IsLimited}
 use Rattle.word_machine.specs.Machine.{step}
-use Rattle.ft_machine.specs.Fields.{parts_of}
+use Rattle.ft_machine.specs.WorldInvariant.{parts_of}
 use Rattle.ft_machine.specs.Worlds.{IsFor, IsRunning, Parts, marked_on, world_of}
 use Rattle.ft_machine.proofs.ControlMoves.{control-chosen, control-moved, control-none, control-on, control-rests, control-room, control-told, controlled}
 use Rattle.ft_machine.proofs.Moved.{HasMoved, moved-from, running-on}

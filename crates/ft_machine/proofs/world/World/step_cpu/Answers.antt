@@ -7,7 +7,7 @@ use Rattle.word_machine.specs.Limits.{IsLimited}
 use Rattle.word_machine.specs.Machine.{step}
 use Rattle.cpu_core.specs.declared.parts.Parts.{Parts as CpuParts}
 use Rattle.task_core.specs.TaskOps.{item_in}
-use Rattle.ft_machine.specs.Fields.{parts_of}
+use Rattle.ft_machine.specs.WorldInvariant.{parts_of}
 use Rattle.ft_machine.specs.Worlds.{IsFor, IsRunning, Parts, marked_on, world_of}
 use Rattle.ft_machine.proofs.CpuMoves.{cpu-again, cpu-chosen, cpu-had-left, cpu-moved, cpu-none, cpu-on, cpu-rests, cpu-room, cpu-taken, cpu-takes-it, found, ran}
 use Rattle.ft_machine.proofs.Moved.{HasMoved, moved-from, running-on}

@@ -5,7 +5,7 @@ use Rattle.ft_job.specs.Plans.{row_of}
 use Rattle.module_table.specs.Lines.{Between, Line, commands_for, after_line}
 use Rattle.module_table.specs.Made.{line_of, Appends}
 use Rattle.ft_script.specs.declared.expansion.Expansion.{Expansion}
-use Rattle.ft_script.specs.Late.{IsTold}
+use Rattle.ft_script.specs.Late.{IsRowAnswer}
 use Rattle.ft_script.proofs.Added.{added-lines, row-told, same-expansion}
 use Rattle.ft_script.proofs.expansion.Expansion.add_line.Goals as goal
 
@@ -16,7 +16,7 @@ returns c =
     let line : Line = line_of known.declared.tasks c.args.line.now in
     let after : c.expand.new.self ≡ after_line known line = search rules in
     let added : Appends known.declared c.new-commands.result.items c.expand.new.out.items (commands_for known line) = search rules in
-    let told : IsTold known line c.in_ok-answer.answer = search rules in
+    let told : IsRowAnswer known line c.in_ok-answer.answer = search rules in
     let first : c.commands-first.result + 1 ≡ suc known.commands = (let e = c.commands-first.ensures in omega (arith, e)) in
     let last : c.commands-last.result ≡ (after_line known line).commands = c.commands-last.ensures ∙ ap (λ (b : Between). b.commands) after in
     let row = c.in_ok-add_row_told.ensures in

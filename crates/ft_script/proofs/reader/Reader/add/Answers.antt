@@ -1,6 +1,6 @@
 use Rattle.std.proofs.Common.{length}
-use Rattle.ft_script.specs.Kept.{above_of, declaration_of}
-use Rattle.ft_script.proofs.KeptReader.{kept-other, other-few, is-other}
+use Rattle.ft_script.specs.ReaderInvariant.{above_of, declaration_of}
+use Rattle.ft_script.proofs.ReaderParts.{kept-other, other-few, is-other}
 use Rattle.ft_script.proofs.reader.Reader.add.Goals as goal
 
 pub returns-in_ok-add_other-in_default : goal.returns-in_ok-add_other-in_default

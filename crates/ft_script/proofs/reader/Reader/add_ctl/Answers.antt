@@ -1,6 +1,6 @@
 use Rattle.std.proofs.Common.{length, is_some, ap, ◌∙◌}
-use Rattle.ft_script.specs.Kept.{above_of, script_ctl_of}
-use Rattle.ft_script.proofs.KeptReader.{pushed-as, added-kept, few-commands}
+use Rattle.ft_script.specs.ReaderInvariant.{above_of, script_ctl_of}
+use Rattle.ft_script.proofs.ReaderParts.{pushed-as, added-kept, few-commands}
 use Rattle.ft_script.proofs.CommandCounts.{ctl-few}
 use Rattle.ft_script.proofs.reader.Reader.add_ctl.Goals as goal
 

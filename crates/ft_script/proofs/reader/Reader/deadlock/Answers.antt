@@ -1,8 +1,8 @@
 use Rattle.std.proofs.Common.{◌≡◌, List, length, map, ap, ◌∙◌}
 use Rattle.ft_script.specs.declared.reader.LinedCtl.{LinedCtl as KeptLine}
 use Rattle.ft_script.specs.Script.{control_of}
-use Rattle.ft_script.specs.Kept.{above_of, control_line}
-use Rattle.ft_script.proofs.KeptLines.{control-kept}
+use Rattle.ft_script.specs.ReaderInvariant.{above_of, control_line}
+use Rattle.ft_script.proofs.ControlLines.{control-kept}
 use Rattle.ft_script.proofs.reader.Reader.deadlock.Goals as goal
 
 pub returns : goal.returns

@@ -1,5 +1,5 @@
 use Rattle.std.proofs.lemmas.Result.{on_ok_weaker}
-use Rattle.ft_script.proofs.KeptReader.{open-line, open-room, open-step}
+use Rattle.ft_script.proofs.ReaderParts.{open-line, open-room, open-step}
 use Rattle.ft_script.proofs.reader.Reader.expand.Goals as goal
 
 pub add-requires-clause-line : goal.add-requires-clause-line

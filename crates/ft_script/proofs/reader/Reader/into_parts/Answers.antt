@@ -2,7 +2,7 @@ use Rattle.std.proofs.Common.{List, refl, ap, ◌∙◌}
 use Rattle.ft_base.specs.Job.{ModuleRow}
 use Rattle.ft_desk.specs.Lines.{lines_of}
 use Rattle.script_waits.specs.Tasks.{lined_task}
-use Rattle.ft_script.proofs.KeptLines.{ctls-in-job, rows-in-job}
+use Rattle.ft_script.proofs.ControlLines.{ctls-in-job, rows-in-job}
 use Rattle.ft_script.proofs.LookUps.{mapped_length}
 use Rattle.ft_script.proofs.reader.Reader.into_parts.Goals as goal
 

@@ -1,6 +1,6 @@
 use Rattle.std.proofs.Common.{sym, ap, ◌∙◌}
 use Rattle.ft_script.specs.Causes.{is_absent}
-use Rattle.ft_script.specs.Kept.{above_of}
+use Rattle.ft_script.specs.ReaderInvariant.{above_of}
 use Rattle.ft_script.proofs.reader.Reader.is_absent.Goals as goal
 
 pub returns-in-Some : goal.returns-in-Some

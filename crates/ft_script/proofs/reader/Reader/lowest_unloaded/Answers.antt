@@ -14,7 +14,7 @@ use Rattle.module_coverage.specs.Spans.{waits_in}
 use Rattle.script_waits.specs.Tasks.{LinedTask, lined_task, tracks_of}
 use Rattle.script_waits.specs.Greedy.{IsLeast}
 use Rattle.ft_script.specs.Above.{Above}
-use Rattle.ft_script.specs.Kept.{above_of}
+use Rattle.ft_script.specs.ReaderInvariant.{above_of}
 use Rattle.ft_script.specs.Script.{job_of, MayFindUnloaded}
 use Rattle.ft_script.proofs.Coverage.{has-expansion, control-known, rows-known, control_of_job, changes-ordered, is-known, named-are, least-call, least-unloaded}
 use Rattle.ft_script.proofs.reader.Reader.lowest_unloaded.Goals as goal

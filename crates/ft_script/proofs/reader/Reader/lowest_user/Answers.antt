@@ -5,7 +5,7 @@ use Rattle.std.proofs.lemmas.Option.{slice_get-map, slice_get_read}
 use Rattle.script_waits.specs.Greedy.{IsLeast}
 use Rattle.user_specs.specs.Plain.{spec_of}
 use Rattle.ft_script.specs.Above.{Above}
-use Rattle.ft_script.specs.Kept.{above_of}
+use Rattle.ft_script.specs.ReaderInvariant.{above_of}
 use Rattle.ft_script.proofs.Coverage.{IsAmong, IsNeedOf, least-next, least-past, least-needed, least-unneeded, least-of_users}
 use Rattle.ft_script.proofs.reader.Reader.lowest_user.Goals as goal
 use Rattle.ft_script.proofs.reader.Reader.lowest_user.Goals.{then-are_needed_by, else-are_needed_by}

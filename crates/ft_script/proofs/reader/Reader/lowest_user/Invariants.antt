@@ -1,6 +1,6 @@
 use Rattle.ft_base.specs.Job.{Job}
 use Rattle.script_waits.specs.Greedy.{IsLeast}
-use Rattle.ft_script.specs.Kept.{above_of, AreOf}
+use Rattle.ft_script.specs.ReaderInvariant.{above_of, AreOf}
 use Rattle.ft_script.proofs.Coverage.{IsAmong, IsNeedOf}
 use Rattle.ft_script.proofs.reader.Reader.lowest_user.Given as goal
 

@@ -5,8 +5,8 @@ use Rattle.ft_desk.specs.Declarations.{declared_by}
 use Rattle.ft_desk.specs.Lines.{lines_of}
 use Rattle.module_table.specs.Lines.{at_first}
 use Rattle.ft_script.specs.declared.reader.Reader.{Reader}
-use Rattle.ft_script.specs.Kept.{above_of}
-use Rattle.ft_script.proofs.KeptReader.{without, shape_in, opened-as, opened-has, kept-open}
+use Rattle.ft_script.specs.ReaderInvariant.{above_of}
+use Rattle.ft_script.proofs.ReaderParts.{without, shape_in, opened-as, opened-has, kept-open}
 use Rattle.ft_script.proofs.reader.Reader.open.Goals as goal
 use Rattle.ft_script.proofs.reader.Reader.open.Goals.{then-self-gt0-via-then-self-gt0, then-self-gt0-via-else-self-gt0+then-is_some}
 

@@ -4,7 +4,7 @@ use Rattle.script_text.specs.Lines.{lines_of}
 use Rattle.script_form.specs.Read.{form_read}
 use Rattle.ft_script.specs.Above.{Resolved, declared}
 use Rattle.ft_script.specs.Script.{said}
-use Rattle.ft_script.specs.Kept.{above_of, resolved_of}
+use Rattle.ft_script.specs.ReaderInvariant.{above_of, resolved_of}
 use Rattle.ft_script.proofs.Fitting.{read_accepted}
 use Rattle.ft_script.proofs.reader.Reader.read_form.Goals as goal
 

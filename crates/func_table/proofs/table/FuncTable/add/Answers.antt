@@ -4,7 +4,7 @@ use Rattle.std.specs.String.{string_eq}
 use Rattle.indexmap.specs.IndexMap.{insert_entry}
 use Rattle.ft_base.specs.Job.{Func}
 use Rattle.func_table.specs.Rows.{Table, IsNamed, IsTable, number_of}
-use Rattle.func_table.specs.Kept.{func_of, table_of}
+use Rattle.func_table.specs.TableFields.{func_of, table_of}
 use Rattle.func_table.proofs.RowLemmas.{funcs-insert_entry, IsTable-added, none_from_find}
 use Rattle.func_table.proofs.table.FuncTable.add.Goals as goal
 

@@ -1,5 +1,5 @@
 use Rattle.std.proofs.Common.{◌≡◌, ◌↔◌, ◌∙◌, IsTrue, ap, sym, subst, arith}
-use Rattle.glob_filter.specs.Fits.{Fits, is_fit}
+use Rattle.glob_filter.specs.Matching.{Fits, is_fit}
 use Rattle.glob_filter.specs.Places.{matches_from}
 use Rattle.glob_filter.proofs.Fitting.{is_fit-Fits}
 use Rattle.glob_filter.proofs.pattern.Pattern.matches.Goals as goal

@@ -1,7 +1,7 @@
 use Rattle.std.proofs.Common.{rules, tests}
 use Rattle.std.proofs.lemmas.Iterator.{YieldsList-from_slice}
 use Rattle.std.proofs.lemmas.Iterator.Search.{all_from_yields_List}
-use Rattle.history_check.specs.KeptRuns.{is_silent}
+use Rattle.history_check.specs.PlainRuns.{is_silent}
 use Rattle.history_check.proofs.RunEnds.{over-is}
 use Rattle.history_check.proofs.acts.Acts.are_over.Goals as goal
 

@@ -1,5 +1,5 @@
 use Rattle.std.proofs.Common.{◌≡◌, ◌+◌, drop}
-use Rattle.history_check.specs.KeptRuns.{past_silent}
+use Rattle.history_check.specs.PlainRuns.{past_silent}
 use Rattle.history_check.proofs.acts.Acts.passed.Given as goal
 
 -- so far each act gave no items, and from here on it goes to the same count

@@ -1,6 +1,6 @@
 -- A user that was neither visited nor off tells against it, and if there is none it holds.
 use Rattle.std.proofs.Common.{◌∙◌, sym, arith, inl, inr}
-use Rattle.history_check.specs.KeptBacks.{is_visited}
+use Rattle.history_check.specs.CallbackCheck.{is_visited}
 use Rattle.history_check.proofs.BacksLaws.{from-is, func-is}
 use Rattle.history_check.proofs.SilentLaws.{not-silent, silent-more, silent}
 use Rattle.history_check.proofs.backs.Check.is_silent.Goals as goal

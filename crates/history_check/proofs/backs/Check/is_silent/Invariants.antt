@@ -1,6 +1,6 @@
 use Rattle.ft_base.specs.Job.{Job}
-use Rattle.history_check.specs.KeptBacks.{is_visited}
-use Rattle.history_check.specs.KeptDesks.{AreOf}
+use Rattle.history_check.specs.CallbackCheck.{is_visited}
+use Rattle.history_check.specs.DeskRows.{AreOf}
 use Rattle.history_check.proofs.SilentLaws.{SilentBelow}
 use Rattle.history_check.proofs.backs.Check.is_silent.Given as goal
 

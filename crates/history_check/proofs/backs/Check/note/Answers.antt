@@ -1,7 +1,7 @@
 -- Calls and visits follow the item, then the open callbacks, then the counts.
 use Rattle.std.proofs.Common.{◌∙◌, ◌∷◌, ap}
 use Rattle.history_check.specs.declared.backs.Check.{Check}
-use Rattle.history_check.specs.KeptCallbacks.{callbacks_of}
+use Rattle.history_check.specs.CallbackList.{callbacks_of}
 use Rattle.history_check.proofs.BacksLaws.{same-calls}
 use Rattle.history_check.proofs.backs.Check.note.Goals as goal
 

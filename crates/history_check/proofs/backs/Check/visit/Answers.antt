@@ -2,7 +2,7 @@
 use Rattle.std.proofs.Common.{◌≡◌, ◌∙◌, Bool, true, false, not, ◌&&◌, refl, sym, ap, subst}
 use Rattle.std.specs.Prelude.{IsTrue, ◌↔◌}
 use Rattle.ft_base.proofs.Small.{and-false}
-use Rattle.history_check.specs.KeptBacks.{is_before, is_visited}
+use Rattle.history_check.specs.CallbackCheck.{is_before, is_visited}
 use Rattle.history_check.proofs.BacksLaws.{may-is}
 use Rattle.history_check.proofs.backs.Check.visit.Goals as goal
 use Rattle.history_check.proofs.backs.Check.visit.Goals.{then-not-is_on-via-then-not-is_on, then-not-is_on-via-else-not-is_on+then-not-is_before}

@@ -1,6 +1,6 @@
 use Rattle.std.proofs.Common.{◌≡◌, ◌+◌, ◌≤◌, count_by, drop, map}
 use Rattle.ft_hist.specs.Past.{is_at}
-use Rattle.history_check.specs.KeptCallbacks.{callback_of, callbacks_of}
+use Rattle.history_check.specs.CallbackList.{callback_of, callbacks_of}
 use Rattle.history_check.proofs.callbacks.Callbacks.count.Given as goal
 
 -- those so far and those to come are all

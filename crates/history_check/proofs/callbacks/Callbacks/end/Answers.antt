@@ -1,6 +1,6 @@
 -- The callback at this place is the first of its call and user, and is taken out.
 use Rattle.std.proofs.Common.{◌<◌, ◌∙◌, length, map, refl, sym, ap, arith, rules}
-use Rattle.history_check.specs.KeptCallbacks.{callback_of}
+use Rattle.history_check.specs.CallbackList.{callback_of}
 use Rattle.history_check.proofs.OpenCallbacks.{at-some, ends-here, ends-later, none-ends}
 use Rattle.history_check.proofs.callbacks.Callbacks.end.Goals as goal
 

@@ -1,6 +1,6 @@
 use Rattle.std.proofs.Common.{length, refl}
 use Rattle.std.proofs.lemmas.Option.{slice_get_read}
-use Rattle.history_check.proofs.KeptDesks.{no-answer}
+use Rattle.history_check.proofs.DeskRowLaws.{no-answer}
 use Rattle.history_check.proofs.desks.Desks.answer.Goals as goal
 
 pub returns-in-Some : goal.returns-in-Some

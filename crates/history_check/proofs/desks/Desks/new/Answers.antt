@@ -1,8 +1,8 @@
 use Rattle.std.proofs.Common.{subst, sym, ap, ◌∙◌}
 use Rattle.ft_base.specs.Desk.{Desk}
-use Rattle.ft_desk.specs.Seen.{Seen}
+use Rattle.ft_desk.specs.DeskView.{DeskView}
 use Rattle.ft_desk.proofs.JobLaws.{opening-is}
-use Rattle.history_check.specs.KeptTold.{IsTold}
+use Rattle.history_check.specs.DeskNumbers.{AreNumbersOf}
 use Rattle.history_check.proofs.desks.Desks.new.Goals as goal
 
 pub rows_of-requires-clause-told : goal.rows_of-requires-clause-told
@@ -11,8 +11,8 @@ rows_of-requires-clause-told c =
     let made = c.in_ok-present.ensures in
     let present = c.in_ok-present.present in
     let told = c.in_ok-told.told in
-    subst (λ n. IsTold n present.state 0 told) (c.tasks.ensures ∙ sym made.declared.tasks)
-    (subst (λ (d : Desk). IsTold c.tasks.result d 0 told) (sym (ap (λ (s : Seen). s.state) made.opened ∙ opening-is job present.declared made.declared))
+    subst (λ n. AreNumbersOf n present.state 0 told) (c.tasks.ensures ∙ sym made.declared.tasks)
+    (subst (λ (d : Desk). AreNumbersOf c.tasks.result d 0 told) (sym (ap (λ (s : DeskView). s.state) made.opened ∙ opening-is job present.declared made.declared))
     (c.in_ok-told.ensures job c.users-users.ensures.count c.tasks.ensures))
 
 pub returns : goal.returns

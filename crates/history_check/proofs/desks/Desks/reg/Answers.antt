@@ -1,6 +1,6 @@
 use Rattle.std.proofs.Common.{sym, ap}
 use Rattle.ft_base.specs.Desk.{UserState}
-use Rattle.history_check.proofs.KeptDesks.{user-past}
+use Rattle.history_check.proofs.DeskRowLaws.{user-past}
 use Rattle.history_check.proofs.desks.Desks.reg.Goals as goal
 
 pub returns-in-None : goal.returns-in-None

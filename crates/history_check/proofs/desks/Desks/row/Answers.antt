@@ -2,8 +2,8 @@ use Rattle.std.proofs.Common.{◌-◌, length, refl}
 use Rattle.std.proofs.lemmas.Option.{slice_get_read}
 use Rattle.ft_base.specs.Job.{Job}
 use Rattle.ft_base.specs.Desk.{desk}
-use Rattle.history_check.specs.KeptDesks.{AreOf, IsDeskOf}
-use Rattle.history_check.proofs.KeptDesks.{found-there, row-last}
+use Rattle.history_check.specs.DeskRows.{AreOf, IsDeskOf}
+use Rattle.history_check.proofs.DeskRowLaws.{found-there, row-last}
 use Rattle.history_check.proofs.desks.Desks.row.Goals as goal
 
 pub returns-in-Some-clause-some : goal.returns-in-Some-clause-some

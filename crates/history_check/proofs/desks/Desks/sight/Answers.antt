@@ -1,7 +1,7 @@
 use Rattle.ft_base.specs.Desk.{desk, user_at}
 use Rattle.ft_base.specs.Job.{Job}
-use Rattle.history_check.specs.KeptDesks.{AreOf, IsSightOf}
-use Rattle.history_check.proofs.KeptDesks.{copied-at, found-there}
+use Rattle.history_check.specs.DeskRows.{AreOf, IsSightOf}
+use Rattle.history_check.proofs.DeskRowLaws.{copied-at, found-there}
 use Rattle.history_check.proofs.desks.Desks.sight.Goals as goal
 
 pub returns-clause-some : goal.returns-clause-some

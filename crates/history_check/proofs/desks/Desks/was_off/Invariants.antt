@@ -1,7 +1,7 @@
 use Rattle.std.proofs.Common.{◌≡◌, ℕ, ◌<◌, ◌≤◌, true}
 use Rattle.ft_base.specs.Job.{Job}
 use Rattle.ft_base.specs.Desk.{desk, is_on}
-use Rattle.history_check.specs.KeptDesks.{AreOf}
+use Rattle.history_check.specs.DeskRows.{AreOf}
 use Rattle.history_check.proofs.desks.Desks.was_off.Given as goal
 
 -- it was on after each number of commands so far

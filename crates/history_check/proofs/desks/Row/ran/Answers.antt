@@ -1,6 +1,6 @@
 use Rattle.std.proofs.Common.{length, refl}
 use Rattle.std.proofs.lemmas.Option.{slice_get_read}
-use Rattle.history_check.proofs.KeptDesks.{run-there, run-past}
+use Rattle.history_check.proofs.DeskRowLaws.{run-there, run-past}
 use Rattle.history_check.proofs.desks.Row.ran.Goals as goal
 
 pub returns-in-Some : goal.returns-in-Some

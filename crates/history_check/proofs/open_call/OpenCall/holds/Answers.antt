@@ -1,6 +1,6 @@
 -- The first visit that holds a frame tells, and if there is none it holds none.
 use Rattle.std.proofs.Common.{◌<◌, ◌∙◌, length, refl, sym, arith, rules}
-use Rattle.history_check.specs.KeptCalls.{keeps_frame}
+use Rattle.history_check.specs.TaskCalls.{keeps_frame}
 use Rattle.history_check.proofs.OpenHolds.{fails-here, holds-is, none-passes, passes-here}
 use Rattle.history_check.proofs.open_call.OpenCall.holds.Goals as goal
 

@@ -1,7 +1,7 @@
 use Rattle.std.proofs.Common.{◌≡◌, drop, map}
 use Rattle.std.specs.List.{list_any}
 use Rattle.ft_base.specs.Job.{Job}
-use Rattle.history_check.specs.KeptCalls.{keeps_frame}
+use Rattle.history_check.specs.TaskCalls.{keeps_frame}
 use Rattle.user_specs.specs.Plain.{spec_of}
 use Rattle.history_check.proofs.open_call.OpenCall.holds.Given as goal
 

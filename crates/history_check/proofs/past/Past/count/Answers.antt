@@ -1,7 +1,7 @@
 use Rattle.std.proofs.Common.{◌∙◌, ◌∷◌, sym, ap}
 use Rattle.ft_base.specs.declared.item.Item.{Item}
 use Rattle.ft_hist.specs.Past.{begun}
-use Rattle.history_check.specs.KeptPast.{lines_after}
+use Rattle.history_check.specs.JudgePast.{lines_after}
 use Rattle.history_check.proofs.FollowPast.{lines-more}
 use Rattle.history_check.proofs.past.Past.count.Goals as goal
 

@@ -3,7 +3,7 @@ use Rattle.std.proofs.Common.{◌∙◌, ◌∷◌, sym, ap}
 use Rattle.ft_base.specs.Items.{call_of}
 use Rattle.ft_base.specs.Kinds.{has_exit}
 use Rattle.ft_base.proofs.Small.{false_true}
-use Rattle.history_check.specs.KeptPast.{is_enter}
+use Rattle.history_check.specs.JudgePast.{is_enter}
 use Rattle.history_check.proofs.FollowPast.{is-due, no-top, none-due}
 use Rattle.history_check.proofs.past.Past.due_after.Goals as goal
 use Rattle.history_check.proofs.past.Past.due_after.Goals.{else-has_exit-via-then-has_exit+else-top-self, else-has_exit-via-else-has_exit}

@@ -1,7 +1,7 @@
 -- The task of the item goes on, and the others stay.
 use Rattle.std.proofs.Common.{◌∙◌, ◌∷◌, length, refl, sym, ap}
 use Rattle.std.specs.Prelude.{option_map}
-use Rattle.history_check.specs.KeptCalls.{due_of}
+use Rattle.history_check.specs.TaskCalls.{due_of}
 use Rattle.std.proofs.lemmas.Option.{slice_get_read}
 use Rattle.std.proofs.lemmas.Result.{on_ok_weaker}
 use Rattle.history_check.specs.declared.task_past.TaskPast.{TaskPast}

@@ -2,7 +2,7 @@ use Rattle.std.proofs.Common.{◌∙◌, refl, ap}
 use Rattle.ft_base.specs.declared.limits.Limits.{Limits}
 use Rattle.ft_base.specs.Versions.{limits_of}
 use Rattle.ft_hist.specs.Plain.{plain}
-use Rattle.history_check.specs.KeptPast.{lines_after}
+use Rattle.history_check.specs.JudgePast.{lines_after}
 use Rattle.history_check.proofs.past.Past.new.Goals as goal
 
 pub returns : goal.returns

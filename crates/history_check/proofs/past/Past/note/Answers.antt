@@ -1,5 +1,5 @@
 use Rattle.std.proofs.Common.{refl, subst}
-use Rattle.history_check.specs.KeptPast.{IsFirstBroken}
+use Rattle.history_check.specs.JudgePast.{IsFirstBroken}
 use Rattle.history_check.proofs.FollowPast.{begun-fits, done-fits}
 use Rattle.history_check.proofs.past.Past.note.Goals as goal
 

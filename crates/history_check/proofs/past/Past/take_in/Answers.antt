@@ -2,8 +2,8 @@
 use Rattle.std.proofs.Common.{◌∙◌, ◌+◌, ◌∷◌, length, sym, ap, subst}
 use Rattle.ft_desk.specs.Lines.{lines_of}
 use Rattle.history_check.specs.declared.past.Past.{Past}
-use Rattle.history_check.specs.KeptCallbacks.{callbacks_of}
-use Rattle.history_check.specs.KeptCalls.{AreTasksOf}
+use Rattle.history_check.specs.CallbackList.{callbacks_of}
+use Rattle.history_check.specs.TaskCalls.{AreTasksOf}
 use Rattle.history_check.proofs.FollowPast.{begun-fits, done-fits, has-room, in-job, place-fits, taken-in}
 use Rattle.history_check.proofs.past.Past.take_in.Goals as goal
 

@@ -1,7 +1,7 @@
 -- The task of an item is one of the job, and its first call is the top one.
 use Rattle.std.proofs.Common.{◌∙◌, sym, ap, subst}
 use Rattle.std.specs.Prelude.{option_map}
-use Rattle.history_check.specs.KeptPast.{IsTopOf}
+use Rattle.history_check.specs.JudgePast.{IsTopOf}
 use Rattle.history_check.proofs.FollowPast.{no-task, top-of-task}
 use Rattle.history_check.proofs.past.Past.top.Goals as goal
 

@@ -1,7 +1,7 @@
 -- A callback and a refusal are visits of the top call.
 use Rattle.std.proofs.Common.{◌∷◌, ap}
 use Rattle.ft_base.specs.Items.{call_of}
-use Rattle.history_check.specs.KeptPast.{is_enter}
+use Rattle.history_check.specs.JudgePast.{is_enter}
 use Rattle.history_check.proofs.FollowPast.{by-none, no-top, not-visit, visit-back, visit-refuse}
 use Rattle.history_check.proofs.past.Past.visit_by.Goals as goal
 

@@ -3,7 +3,7 @@ use Rattle.std.proofs.Common.{ap}
 use Rattle.std.specs.Prelude.{option_map}
 use Rattle.ft_base.specs.Items.{call_of}
 use Rattle.ft_hist.specs.Rules.{MayVisit}
-use Rattle.history_check.specs.KeptPast.{is_enter}
+use Rattle.history_check.specs.JudgePast.{is_enter}
 use Rattle.history_check.proofs.RuleCalls.{no-top, of-top}
 use Rattle.history_check.proofs.rules.callbacks.keeps_callbacks.Goals as goal
 

@@ -1,7 +1,7 @@
 use Rattle.std.proofs.Common.{List, drop}
 use Rattle.ft_base.specs.declared.item.Item.{Item}
 use Rattle.ft_base.specs.Job.{Job}
-use Rattle.history_check.specs.KeptPast.{IsPast}
+use Rattle.history_check.specs.JudgePast.{IsPast}
 use Rattle.history_check.proofs.JudgeControl.{Decides}
 use Rattle.history_check.proofs.rules.commands.has_waited.Given as goal
 

@@ -2,7 +2,7 @@ use Rattle.std.proofs.Common.{List, take}
 use Rattle.std.specs.List.{AllByRecursion as Each}
 use Rattle.ft_base.specs.declared.item.Item.{Item}
 use Rattle.ft_base.specs.Job.{Job}
-use Rattle.history_check.specs.KeptPast.{IsPast}
+use Rattle.history_check.specs.JudgePast.{IsPast}
 use Rattle.history_check.proofs.RuleExits.{IsSettled}
 use Rattle.history_check.proofs.rules.exits.are_exits_done.Given as goal
 

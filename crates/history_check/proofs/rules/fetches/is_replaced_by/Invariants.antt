@@ -1,7 +1,7 @@
 use Rattle.std.proofs.Common.{◌≡◌, None, List, drop}
 use Rattle.ft_base.specs.declared.item.Item.{Item}
 use Rattle.ft_base.specs.Job.{Job}
-use Rattle.history_check.specs.KeptPast.{IsPast}
+use Rattle.history_check.specs.JudgePast.{IsPast}
 use Rattle.history_check.proofs.RuleFetches.{is_run}
 use Rattle.history_check.proofs.rules.fetches.is_replaced_by.Given as goal
 

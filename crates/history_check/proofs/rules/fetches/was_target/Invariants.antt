@@ -2,8 +2,8 @@ use Rattle.std.proofs.Common.{◌≡◌, ℕ, ◌<◌, ◌≤◌, List}
 use Rattle.ft_base.specs.declared.item.Item.{Item}
 use Rattle.ft_base.specs.Job.{Job}
 use Rattle.ft_base.specs.Desk.{desk, target}
-use Rattle.history_check.specs.KeptCalls.{IsTop}
-use Rattle.history_check.specs.KeptPast.{IsPast}
+use Rattle.history_check.specs.TaskCalls.{IsTop}
+use Rattle.history_check.specs.JudgePast.{IsPast}
 use Rattle.history_check.proofs.rules.fetches.was_target.Given as goal
 
 -- the target was another after each number of commands so far

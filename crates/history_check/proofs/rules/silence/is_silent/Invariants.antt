@@ -1,5 +1,5 @@
 use Rattle.ft_base.specs.Job.{Job}
-use Rattle.history_check.specs.KeptDesks.{AreOf}
+use Rattle.history_check.specs.DeskRows.{AreOf}
 use Rattle.history_check.proofs.RuleCalls.{has_visit}
 use Rattle.history_check.proofs.SilentLaws.{SilentBelow}
 use Rattle.history_check.proofs.rules.silence.is_silent.Given as goal

@@ -2,7 +2,7 @@
 use Rattle.std.proofs.Common.{ap}
 use Rattle.std.specs.Prelude.{option_map}
 use Rattle.ft_base.specs.Items.{call_of}
-use Rattle.history_check.specs.KeptPast.{is_enter}
+use Rattle.history_check.specs.JudgePast.{is_enter}
 use Rattle.ft_hist.specs.Rules.{IsSilent}
 use Rattle.history_check.proofs.RuleCalls.{no-top, of-top}
 use Rattle.history_check.proofs.rules.silence.keeps_silence.Goals as goal

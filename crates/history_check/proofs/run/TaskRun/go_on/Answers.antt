@@ -1,6 +1,6 @@
 use Rattle.std.proofs.Common.{◌∙◌, ◌∷◌, sym, ap, drop, Some, option_map}
 use Rattle.ft_hist.specs.Plain.{PlainTask, in_phase}
-use Rattle.history_check.specs.KeptRuns.{frame_of, moved, phase_of}
+use Rattle.history_check.specs.PlainRuns.{frame_of, moved, phase_of}
 use Rattle.history_check.specs.declared.frame.Frame.{Frame}
 use Rattle.history_check.proofs.RunSteps.{is-top, of-none, step-is}
 use Rattle.history_check.proofs.run.TaskRun.go_on.Goals as goal

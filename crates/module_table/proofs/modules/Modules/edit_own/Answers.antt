@@ -9,9 +9,9 @@ use Rattle.ft_desk.specs.Commands.{command_of, IsInShape}
 use Rattle.ft_desk.specs.Declarations.{job_of}
 use Rattle.module_table.specs.Lines.{Between, Plain, hidden, hidden_now, mask, desk_after, command_for, commands_for, answer_to, after_line}
 use Rattle.module_table.specs.Made.{Appends}
-use Rattle.module_table.specs.Kept.{between}
+use Rattle.module_table.specs.ModulesInvariant.{between}
 use Rattle.module_table.proofs.MadeLaws.{appends-one}
-use Rattle.module_table.proofs.KeptLaws.{own-edits, own-sized, hidden-sized, command-masks, after-edit, reached-edit, kept-by}
+use Rattle.module_table.proofs.BetweenLaws.{own-edits, own-sized, hidden-sized, command-masks, after-edit, reached-edit, kept-by}
 use Rattle.module_table.proofs.modules.Modules.edit_own.Goals as goal
 
 pub mask-requires : goal.mask-requires

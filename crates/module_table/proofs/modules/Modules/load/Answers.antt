@@ -5,7 +5,7 @@ use Rattle.module_table.specs.Lines.{Between, Load, answer_to, hidden, clash}
 use Rattle.module_table.specs.Made.{Appends}
 use Rattle.module_table.specs.Reached.{IsReached, IsSafe, moved, moving}
 use Rattle.module_table.proofs.MovedLaws.{safe-load}
-use Rattle.module_table.proofs.KeptLaws.{after-load, commands-load}
+use Rattle.module_table.proofs.BetweenLaws.{after-load, commands-load}
 use Rattle.module_table.proofs.modules.Modules.load.Goals as goal
 
 pub move_to-requires-clause-safe : goal.move_to-requires-clause-safe

@@ -6,11 +6,11 @@ use Rattle.ft_desk.specs.declared.command.Command.TheVariants.{MaxDepth}
 use Rattle.ft_desk.specs.Commands.{IsInShape}
 use Rattle.module_table.specs.Lines.{Between, hidden}
 use Rattle.module_table.specs.Made.{Appends, mask_commands}
-use Rattle.module_table.specs.Kept.{between}
+use Rattle.module_table.specs.ModulesInvariant.{between}
 use Rattle.module_table.specs.Reached.{IsReached, IsSafe, moved, moving}
 use Rattle.module_table.proofs.MadeLaws.{appends-masks, moving-declared, length-moving}
 use Rattle.module_table.proofs.MovedLaws.{reached-moved, moved-depth}
-use Rattle.module_table.proofs.KeptLaws.{made, after-move, kept-by}
+use Rattle.module_table.proofs.BetweenLaws.{made, after-move, kept-by}
 use Rattle.module_table.proofs.modules.Modules.move_to.Goals as goal
 
 pub run_all-requires-clause-numbers : goal.run_all-requires-clause-numbers

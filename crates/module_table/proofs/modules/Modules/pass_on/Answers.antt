@@ -3,8 +3,8 @@ use Rattle.ft_desk.specs.Commands.{command_of, IsInShape}
 use Rattle.ft_desk.specs.Declarations.{job_of}
 use Rattle.module_table.specs.Lines.{Between, desk_after}
 use Rattle.module_table.specs.Made.{depth_after}
-use Rattle.module_table.specs.Kept.{between}
-use Rattle.module_table.proofs.KeptLaws.{reached-unmasked, depth-unmasked, kept-by}
+use Rattle.module_table.specs.ModulesInvariant.{between}
+use Rattle.module_table.proofs.BetweenLaws.{reached-unmasked, depth-unmasked, kept-by}
 use Rattle.module_table.proofs.modules.Modules.pass_on.Goals as goal
 
 pub invariant_of-self-2 : goal.invariant_of-self-2

@@ -3,7 +3,7 @@ use Rattle.ft_base.specs.Marks.{Marks, holds, is_empty}
 use Rattle.ft_base.specs.Desk.{spec_at}
 use Rattle.ft_desk.specs.Declarations.{job_of}
 use Rattle.module_table.specs.Lines.{Between, replaces}
-use Rattle.module_table.specs.Kept.{between}
+use Rattle.module_table.specs.ModulesInvariant.{between}
 use Rattle.module_table.proofs.ClashLaws.{modifier-at, own-size, filter-size, hidden-size, is-replaced}
 use Rattle.module_table.proofs.modules.Modules.replaces.Goals as goal
 

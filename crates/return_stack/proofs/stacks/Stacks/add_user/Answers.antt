@@ -1,4 +1,4 @@
-use Rattle.return_stack.proofs.StackOps.{on_frame_with_room, stack_with_user, tied_with_user}
+use Rattle.return_stack.proofs.StackOps.{on_frame_with_room, stack_with_user, hooks_with_user}
 use Rattle.return_stack.proofs.stacks.Stacks.add_user.Goals as goal
 
 pub add_user-requires-clause-frame : goal.add_user-requires-clause-frame
@@ -13,7 +13,7 @@ pub invariant_of-self : goal.invariant_of-self
 invariant_of-self c =
     let kept = c.self.invariant in
     record {
-      tied = tied_with_user c.self.inside _ _ kept.tied c.add_user.ensures;
+      tied = hooks_with_user c.self.inside _ _ kept.tied c.add_user.ensures;
       within = kept.within;
       room = kept.room;
       small = kept.small;

@@ -1,5 +1,5 @@
 use Rattle.std.proofs.Common.{sym, ◌∙◌, arith}
-use Rattle.return_stack.proofs.StackOps.{on_frame, stack_dropped, tied_dropped, unused_at, used_stays, unhooked_stays}
+use Rattle.return_stack.proofs.StackOps.{on_frame, stack_dropped, hooks_dropped, unused_at, used_stays, unhooked_stays}
 use Rattle.return_stack.proofs.stacks.Stacks.drop_empty.Goals as goal
 use Rattle.return_stack.proofs.stacks.Stacks.drop_empty.Goals.{else-has_frame-via-then-has_frame+else-has_no_users, else-has_frame-via-else-has_frame}
 
@@ -17,7 +17,7 @@ invariant_of-self c =
     let unused = unused_at c.self.inside _ c.len-top.result c.self.view_is kept.tied (omega (arith, c.len-top.ensures, c.self.inside.addresses.ok.0)) c.requires
     (sym c.has_frame.ensures ∙ c.if-has_frame.true) (sym c.has_no_users.ensures ∙ c.if-has_no_users.true) in
     record {
-      tied = tied_dropped c.self.inside _ c.pop.new.self _ _ c.self.view_is kept.tied unused c.pop.ensures.to c.pop.ensures.frames;
+      tied = hooks_dropped c.self.inside _ c.pop.new.self _ _ c.self.view_is kept.tied unused c.pop.ensures.to c.pop.ensures.frames;
       within = kept.within;
       room = kept.room;
       small = kept.small;

@@ -1,5 +1,5 @@
 use Rattle.std.proofs.Common.{sym, ◌∙◌, arith}
-use Rattle.return_stack.proofs.StackOps.{unhooked_at, is_full-unhooked, stack_hooked, tied_hooked}
+use Rattle.return_stack.proofs.StackOps.{unhooked_at, is_full-unhooked, stack_hooked, hooks_hooked}
 use Rattle.return_stack.proofs.stacks.Stacks.hook.Goals as goal
 
 pub returns-then-is_full-clause-full : goal.returns-then-is_full-clause-full
@@ -16,7 +16,7 @@ invariant_of-self c =
     let kept = c.self.invariant in
     let own = unhooked_at c.self.inside _ c.len-top.result _ _ c.self.view_is kept.tied (omega (arith, c.len-top.ensures, c.self.inside.addresses.ok.0)) c.requires c.index.ensures c.in-To.is in
     record {
-      tied = tied_hooked c.self.inside _ _ _ _ kept.tied own c.push.ensures;
+      tied = hooks_hooked c.self.inside _ _ _ _ kept.tied own c.push.ensures;
       within = kept.within;
       room = kept.room;
       small = kept.small;

@@ -1,5 +1,5 @@
 use Rattle.ft_io.proofs.PieceLaws.{puts-then}
-use Rattle.trace_views.specs.KeptCalls.{function_line_text}
+use Rattle.trace_views.specs.OpenCalls.{function_line_text}
 use Rattle.trace_lines.proofs.function.FunctionLineLine.put.Goals as goal
 
 pub returns : goal.returns

@@ -1,5 +1,5 @@
 use Rattle.std.proofs.Common.{List, ℕ, ◌++◌, ap, ◌∙◌, append_assoc, arith}
-use Rattle.trace_views.specs.KeptCalls.{function_line_text}
+use Rattle.trace_views.specs.OpenCalls.{function_line_text}
 use Rattle.trace_views.specs.LineRings.{LineBox}
 use Rattle.trace_views.specs.RingLines.{rings_line_text}
 use Rattle.trace_views.specs.RingsText.{cpu_line}

@@ -1,6 +1,6 @@
 use Rattle.std.proofs.Common.{◌≡◌, ◌++◌, drop}
 use Rattle.ft_base.specs.Job.{Job}
-use Rattle.trace_views.specs.KeptCalls.{function_line_text}
+use Rattle.trace_views.specs.OpenCalls.{function_line_text}
 use Rattle.trace_views.specs.RingLines.{rings_line_text}
 use Rattle.trace_views.specs.LineRings.{kept_text}
 use Rattle.trace_views.specs.Words.{lines_text}

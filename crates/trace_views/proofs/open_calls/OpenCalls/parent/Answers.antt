@@ -3,7 +3,7 @@ use Rattle.std.specs.Prelude.{reverse, option_map}
 use Rattle.std.proofs.lemmas.List.{length-reverse}
 use Rattle.std.proofs.lemmas.Option.{slice_get_past}
 use Rattle.ft_base.specs.declared.number.FuncNo.{FuncNo}
-use Rattle.trace_views.specs.KeptCalls.{runs, parent_of}
+use Rattle.trace_views.specs.OpenCalls.{runs, parent_of}
 use Rattle.trace_views.proofs.FollowLaws.{list-of}
 use Rattle.trace_views.proofs.StackSteps.{second-is}
 use Rattle.trace_views.proofs.open_calls.OpenCalls.parent.Goals as goal

@@ -3,7 +3,7 @@ use Rattle.ft_base.specs.declared.item.Item.{Item}
 use Rattle.ft_base.specs.declared.item.Item.TheVariants.{Refuse, Miss}
 use Rattle.ft_base.specs.declared.item.Reason.{Reason}
 use Rattle.ft_base.specs.declared.item.Reason.TheVariants.{Recursion}
-use Rattle.trace_views.specs.KeptCalls.{stacks_in}
+use Rattle.trace_views.specs.OpenCalls.{stacks_in}
 use Rattle.trace_views.specs.ProfileViews.{IsMissOf}
 use Rattle.trace_views.specs.TaskStacks.{stack_at}
 use Rattle.trace_views.proofs.FollowLaws.{some-open}

@@ -1,7 +1,7 @@
 use Rattle.std.proofs.Common.{◌≡◌, ℕ, ◌≤◌, [], Some, vec_len}
 use Rattle.std.specs.Prelude.{slice_get, vec_capacity}
 use Rattle.trace_views.specs.declared.profile.UserTally.{UserTally}
-use Rattle.trace_views.specs.KeptCalls.{IsFollowed}
+use Rattle.trace_views.specs.OpenCalls.{IsFollowed}
 use Rattle.trace_views.specs.ProfileViews.{IsUserTally}
 use Rattle.trace_views.proofs.profile.ProfileView.new.Given as goal
 
