@@ -7,7 +7,7 @@ ghost use Rattle.trace_views.specs.LogText.{log_line};
 use ft_base::{Item, NoMemory};
 use ft_io::Pieces;
 use std::alloc::Global;
-use trace_lines::{GrownText, put_line};
+use trace_lines::{CallTexts, GrownText, put_line};
 use trace_views::Named;
 
 /// One line, to be compared with a text. The room for it is taken once, for all lines.
@@ -15,6 +15,7 @@ use trace_views::Named;
 pub(crate) struct Written {
     text: GrownText,
     pieces: Pieces,
+    calls: CallTexts,
 }
 
 impl Written {
@@ -26,6 +27,7 @@ impl Written {
             Ok(pieces) => Ok(Written {
                 text: GrownText::new(alloc),
                 pieces,
+                calls: CallTexts::new(),
             }),
             Err(_) => Err(NoMemory),
         }
@@ -43,7 +45,14 @@ impl Written {
         ensures ready { OnOk result (self.new.pieces ≡ nothing) }
     {
         self.text.bytes.clear();
-        put_line(&mut self.pieces, &mut self.text, names, place, item);
+        put_line(
+            &mut self.pieces,
+            &mut self.text,
+            &mut self.calls,
+            names,
+            place,
+            item,
+        );
         self.pieces.flush(&mut self.text);
         if self.pieces.has_failed() {
             Err(NoMemory)

@@ -5,6 +5,7 @@ pub mod LogWords
 pub mod LogReads
 pub mod LogTells
 pub mod InColumns
+pub mod CallBytes
 pub mod CountedUp
 pub mod GraphFronts
 pub mod ModuleLines

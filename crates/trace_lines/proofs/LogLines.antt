@@ -37,6 +37,10 @@ joined-answer job word Invalid = refl
 joined-answer job word NoMatch = refl
 joined-answer job word (Busy f u) = refl
 
+-- a context between its spaces, and more after them
+pub context-more : (context more : List ℕ) → (codes " " ++ (context ++ codes " ")) ++ more ≡ codes " " ++ (context ++ (codes " " ++ more))
+context-more context more = simp append_assoc
+
 -- a word, a call and a user, and more after them
 pub visit-more : (word call user more : List ℕ) → (word ++ (call ++ (codes " " ++ user))) ++ more ≡ word ++ (call ++ (codes " " ++ (user ++ more)))
 visit-more word call user more = simp append_assoc

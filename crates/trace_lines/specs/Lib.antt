@@ -1,1 +1,2 @@
 pub mod LogItems
+pub mod CallTexts

@@ -7,6 +7,7 @@
 //! memory.
 #![tactic(auto)]
 
+mod calls;
 mod columns;
 mod decimal;
 mod enabled;
@@ -20,6 +21,7 @@ mod modules;
 mod profile;
 mod rings;
 
+pub use calls::CallTexts;
 pub use columns::{last_line, put_number};
 pub use grown::GrownText;
 pub use lines::{Line, put_lines};

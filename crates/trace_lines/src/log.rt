@@ -8,6 +8,7 @@ ghost use Rattle.trace_views.specs.LogText.{call_word, caller_word, lane_words};
 ghost use Rattle.trace_views.specs.LogText.{context_word, reason_word, ran_words, answer_words, joined};
 ghost use Rattle.trace_views.specs.LogText.{item_words, log_line, log_lines};
 
+use crate::calls::CallTexts;
 use crate::columns::put_number;
 use crate::decimal::Decimal;
 use ft_base::{Answer, CallNo, Ctx, Item, Ran, Reason, UserNo};
@@ -16,8 +17,6 @@ use ft_io::{Pieces, Sink};
 use trace_views::Named;
 
 /// Puts a call: the pid of its task, a dot and its number.
-// In place: nearly each line has one.
-#[inline(always)]
 pub fn put_call<K: Sink, N: Named>(pieces: &mut Pieces, sink: &mut K, names: &N, call: CallNo)
     ensures { Puts K.holds K.faults (call_word (N.job names.now) call)
         sink.old pieces.old sink.new pieces.new }
@@ -27,10 +26,28 @@ pub fn put_call<K: Sink, N: Named>(pieces: &mut Pieces, sink: &mut K, names: &N,
     put_number(pieces, sink, call.n);
 }
 
+/// Puts a call, as `put_call` does.
+// In place: nearly each line has one.
+#[inline(always)]
+fn put_known<K: Sink, N: Named>(
+    pieces: &mut Pieces,
+    sink: &mut K,
+    texts: &mut CallTexts,
+    names: &N,
+    call: CallNo,
+)
+    ensures { Puts K.holds K.faults (call_word (N.job names.now) call)
+        sink.old pieces.old sink.new pieces.new }
+{
+    texts.put(pieces, sink, names.task(call.task).pid, call);
+}
+
 /// Puts the enclosing call, or `-` at the outermost level.
+#[inline(always)]
 fn put_caller<K: Sink, N: Named>(
     pieces: &mut Pieces,
     sink: &mut K,
+    texts: &mut CallTexts,
     names: &N,
     caller: Option<CallNo>,
 )
@@ -39,7 +56,7 @@ fn put_caller<K: Sink, N: Named>(
 {
     match caller {
         None => pieces.put(sink, b"-"),
-        Some(call) => put_call(pieces, sink, names, call),
+        Some(call) => put_known(pieces, sink, texts, names, call),
     }
 }
 
@@ -52,6 +69,21 @@ pub fn context_name(ctx: Ctx) -> &'static str
         Ctx::Softirq => "softirq",
         Ctx::Irq => "irq",
         Ctx::Nmi => "nmi",
+    }
+}
+
+/// Puts a context between two spaces.
+// Bytes that are known there are put by a store or two.
+#[inline(always)]
+fn put_context<K: Sink>(pieces: &mut Pieces, sink: &mut K, ctx: Ctx)
+    ensures { Puts K.holds K.faults (codes " " ++ (context_word ctx ++ codes " "))
+        sink.old pieces.old sink.new pieces.new }
+{
+    match ctx {
+        Ctx::Normal => pieces.put(sink, b" normal "),
+        Ctx::Softirq => pieces.put(sink, b" softirq "),
+        Ctx::Irq => pieces.put(sink, b" irq "),
+        Ctx::Nmi => pieces.put(sink, b" nmi "),
     }
 }
 
@@ -109,6 +141,7 @@ pub(crate) fn put_answer<K: Sink, N: Named>(
 fn put_visit<K: Sink, N: Named>(
     pieces: &mut Pieces,
     sink: &mut K,
+    texts: &mut CallTexts,
     names: &N,
     word: &[u8],
     call: CallNo,
@@ -119,7 +152,7 @@ fn put_visit<K: Sink, N: Named>(
         sink.old pieces.old sink.new pieces.new }
 {
     pieces.put(sink, word);
-    put_call(pieces, sink, names, call);
+    put_known(pieces, sink, texts, names, call);
     pieces.put(sink, b" ");
     pieces.put(sink, names.user(user).as_bytes());
 }
@@ -140,7 +173,13 @@ fn put_begin<K: Sink>(pieces: &mut Pieces, sink: &mut K, k: u32, lane: Option<u3
 /// Puts a space, and what an item says after its place.
 // In place: else its calls save more than they do.
 #[inline(always)]
-fn put_item<K: Sink, N: Named>(pieces: &mut Pieces, sink: &mut K, names: &N, item: &Item)
+fn put_item<K: Sink, N: Named>(
+    pieces: &mut Pieces,
+    sink: &mut K,
+    texts: &mut CallTexts,
+    names: &N,
+    item: &Item,
+)
     ensures { Puts K.holds K.faults (codes " " ++ joined (item_words (N.job names.now) item.now))
         sink.old pieces.old sink.new pieces.new }
 {
@@ -159,26 +198,32 @@ fn put_item<K: Sink, N: Named>(pieces: &mut Pieces, sink: &mut K, names: &N, ite
             caller,
         } => {
             pieces.put(sink, b" enter ");
-            put_call(pieces, sink, names, call);
-            pieces.put(sink, b" ");
-            pieces.put(sink, context_name(ctx).as_bytes());
-            pieces.put(sink, b" ");
+            put_known(pieces, sink, texts, names, call);
+            put_context(pieces, sink, ctx);
             pieces.put(sink, names.function(func).as_bytes());
             pieces.put(sink, b" ");
-            put_caller(pieces, sink, names, caller);
+            put_caller(pieces, sink, texts, names, caller);
         }
-        Item::Back { call, user } => put_visit(pieces, sink, names, b" back ", call, user),
-        Item::BackEnd { call, user } => put_visit(pieces, sink, names, b" back-end ", call, user),
+        Item::Back { call, user } => put_visit(pieces, sink, texts, names, b" back ", call, user),
+        Item::BackEnd { call, user } => put_visit(
+            pieces,
+            sink,
+            texts,
+            names,
+            b" back-end ",
+            call,
+            user,
+        ),
         Item::Refuse { call, user, reason } => {
-            put_visit(pieces, sink, names, b" refuse ", call, user);
+            put_visit(pieces, sink, texts, names, b" refuse ", call, user);
             pieces.put(sink, b" ");
             pieces.put(sink, reason_name(reason).as_bytes());
         }
-        Item::Miss { call, user } => put_visit(pieces, sink, names, b" miss ", call, user),
+        Item::Miss { call, user } => put_visit(pieces, sink, texts, names, b" miss ", call, user),
         Item::Body { call, func, ran } => {
             let (word, user) = ran_parts(names, ran);
             pieces.put(sink, b" body ");
-            put_call(pieces, sink, names, call);
+            put_known(pieces, sink, texts, names, call);
             pieces.put(sink, b" ");
             pieces.put(sink, names.function(func).as_bytes());
             pieces.put(sink, b" ");
@@ -187,19 +232,27 @@ fn put_item<K: Sink, N: Named>(pieces: &mut Pieces, sink: &mut K, names: &N, ite
         }
         Item::Leave { call } => {
             pieces.put(sink, b" leave ");
-            put_call(pieces, sink, names, call);
+            put_known(pieces, sink, texts, names, call);
         }
         Item::Exit { call, user, entry } => {
-            put_visit(pieces, sink, names, b" exit ", call, user);
+            put_visit(pieces, sink, texts, names, b" exit ", call, user);
             pieces.put(sink, b" ");
             put_number(pieces, sink, entry);
         }
-        Item::ExitEnd { call, user } => put_visit(pieces, sink, names, b" exit-end ", call, user),
+        Item::ExitEnd { call, user } => put_visit(
+            pieces,
+            sink,
+            texts,
+            names,
+            b" exit-end ",
+            call,
+            user,
+        ),
         Item::Ret { call, to } => {
             pieces.put(sink, b" ret ");
-            put_call(pieces, sink, names, call);
+            put_known(pieces, sink, texts, names, call);
             pieces.put(sink, b" ");
-            put_caller(pieces, sink, names, to);
+            put_caller(pieces, sink, texts, names, to);
         }
     }
 }
@@ -208,6 +261,7 @@ fn put_item<K: Sink, N: Named>(pieces: &mut Pieces, sink: &mut K, names: &N, ite
 pub fn put_line<K: Sink, N: Named>(
     pieces: &mut Pieces,
     sink: &mut K,
+    texts: &mut CallTexts,
     names: &N,
     place: u32,
     item: &Item,
@@ -216,7 +270,7 @@ pub fn put_line<K: Sink, N: Named>(
         sink.old pieces.old sink.new pieces.new }
 {
     put_number(pieces, sink, place);
-    put_item(pieces, sink, names, item);
+    put_item(pieces, sink, texts, names, item);
     pieces.put(sink, b"\n");
 }
 
@@ -227,12 +281,13 @@ pub fn put_log<K: Sink, N: Named>(pieces: &mut Pieces, sink: &mut K, names: &N, 
         sink.old pieces.old sink.new pieces.new }
 {
     let mut digits = Decimal::of(0);
+    let mut texts = CallTexts::new();
     for place in 0..history.len() {
         if pieces.has_failed() {
             return;
         }
         digits.put(pieces, sink);
-        put_item(pieces, sink, names, history.item(place));
+        put_item(pieces, sink, &mut texts, names, history.item(place));
         pieces.put(sink, b"\n");
         digits.count();
     }
