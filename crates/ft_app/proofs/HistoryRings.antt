@@ -14,7 +14,7 @@ use Rattle.ft_words.specs.declared.order.Order.{Order}
 use Rattle.ft_words.specs.declared.order.Order.TheVariants.{Replay, Run, Bulk}
 use Rattle.trace_print.specs.declared.kept.Kept.{Kept}
 use Rattle.trace_print.specs.declared.kept.Kept.TheVariants as keeps
-use Rattle.trace_print.specs.declared.kept.Kept.TheVariants.{History, Function, Profile, Returned, Nothing, Totals}
+use Rattle.trace_print.specs.declared.kept.Kept.TheVariants.{History, Graph, NoGraph, Function, Profile, Returned, Nothing, Totals}
 use Rattle.trace_print.specs.Kept.{AllItems, IsAllAnd, IsEnoughFor, IsKeptOf, ServesForm, content_of}
 use Rattle.trace_print.specs.Texts.{text_of}
 use Rattle.ft_app.specs.declared.carried_out.CarriedOut.{CarriedOut}
@@ -102,6 +102,8 @@ run-made form job (Ok c) led run kept = all c.kept refl run kept
         carried_out = record { led' = led; history = run; kept' = kept };
       },
     )
+    all (Graph h) e run kept = absurd run
+    all NoGraph e run kept = absurd run
     all (Function v) e run kept = absurd run
     all (Profile v) e run kept = absurd run
     all (Returned n) e run kept = absurd run

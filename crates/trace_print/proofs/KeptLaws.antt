@@ -1,12 +1,17 @@
 -- What is kept of a history, item by item.
-use Rattle.std.proofs.Common.{◌≡◌, ℕ, ◌+◌, ◌<◌, ◌^◌, Bool, List, ◌∷◌, ◌++◌, [], length, reverse, refl, sym, ap, ap₂, ◌∙◌, subst, arith, append_assoc}
+use Rattle.std.proofs.Common.{◌≡◌, ℕ, suc, ◌+◌, ◌<◌, ◌^◌, Bool, false, List, ◌∷◌, ◌++◌, [], ◌||◌, length, map, reverse, refl, sym, ap, ap₂, ◌∙◌, subst, arith, append_assoc}
 use Rattle.std.proofs.lemmas.List.{length-reverse, reverse-append, reverse-reverse}
+use Rattle.std.specs.List.{list_any}
 use Rattle.ft_base.specs.declared.item.Item.{Item}
+use Rattle.ft_base.specs.Job.{Spec}
+use Rattle.ft_base.proofs.Small.{or-false_both}
 use Rattle.ft_base.specs.Desk.{desk}
 use Rattle.ft_base.specs.Job.{Job, funcs}
 use Rattle.ft_hist.specs.Past.{done}
 use Rattle.ft_hist.specs.Rules.{IsLegalPast}
 use Rattle.ft_hist.proofs.WindowLaws.{few-done}
+use Rattle.user_specs.specs.declared.spec.Spec.{Spec as DeclaredSpec}
+use Rattle.user_specs.specs.Plain.{spec_of}
 use Rattle.word_machine.specs.Limits.{IsLimited}
 use Rattle.ft_words.specs.declared.order.Form.{Form}
 use Rattle.ft_words.specs.declared.order.Form.TheVariants as forms
@@ -18,17 +23,18 @@ use Rattle.trace_views.specs.declared.counts.Totals.{Totals as Counted}
 use Rattle.trace_views.specs.EnabledText.{enabled_lines, enabled_text}
 use Rattle.trace_views.specs.FunctionText.{function_part, function_text}
 use Rattle.trace_views.specs.FunctionViews.{HasFunction}
+use Rattle.trace_views.specs.GraphText.{graph_text, user_graph}
 use Rattle.trace_views.specs.ModulesText.{module_line, modules_text}
 use Rattle.trace_views.specs.ProfileText.{fprobe_line, profile_text, user_profile}
 use Rattle.trace_views.specs.ProfileViews.{HasProfile}
 use Rattle.trace_views.specs.Returned.{done_with}
 use Rattle.trace_views.specs.RingViews.{HasRings}
 use Rattle.trace_views.specs.RingsText.{rings_body, rings_text}
-use Rattle.trace_views.specs.Words.{item_texts, last_line, lines_text, numbered_texts}
+use Rattle.trace_views.specs.Words.{is_graph, item_texts, last_line, lines_text, numbered_texts}
 use Rattle.trace_views.proofs.ReturnedLaws.{done-more}
 use Rattle.trace_print.specs.declared.kept.Kept.{Kept}
-use Rattle.trace_print.specs.declared.kept.Kept.TheVariants.{History, Function, Profile, Returned, Nothing, Rings, Totals}
-use Rattle.trace_print.specs.Kept.{Has, IsEnoughFor, IsKeptOf, ServesForm, content_for, content_of}
+use Rattle.trace_print.specs.declared.kept.Kept.TheVariants.{History, Graph, NoGraph, Function, Profile, Returned, Nothing, Rings, Totals}
+use Rattle.trace_print.specs.Kept.{Has, HasNoGraph, IsEnoughFor, IsKeptOf, ServesForm, content_for, content_of}
 use Rattle.trace_print.specs.Texts.{text_of}
 
 -- one more item
@@ -51,6 +57,8 @@ totals-next past item t are = subst (λ (xs : List Item). AreTotals xs t) (sym (
 -- what has taken items, the latest first, is kept of them in order
 pub has-kept : (job : Job) (past : List Item) (kept : Kept) → Has job past kept → IsKeptOf job (reverse past) kept
 has-kept job past (History h) has = sym (reverse-reverse h.items) ∙ ap (λ (xs : List Item). reverse xs) has
+has-kept job past (Graph h) has = sym (reverse-reverse h.items) ∙ ap (λ (xs : List Item). reverse xs) has
+has-kept job past NoGraph has = has
 has-kept job past (Function v) has = subst (λ (xs : List Item). HasFunction job xs v) (sym (reverse-reverse past)) has
 has-kept job past (Profile v) has = subst (λ (xs : List Item). HasProfile job xs v) (sym (reverse-reverse past)) has
 has-kept job past (Returned n) has = has ∙ ap done (sym (reverse-reverse past))
@@ -65,7 +73,7 @@ own-enough form kept is = subst (ServesForm form) (sym is) (own form)
     own : (f : Form) → ServesForm f (content_for f)
     own forms.Log = tt
     own forms.Function = refl
-    own forms.Graph = tt
+    own forms.Graph = refl
     own forms.Profile = refl
     own forms.Enabled = refl
     own forms.Modules = refl
@@ -78,12 +86,30 @@ pub as-sent : {L : Type 0} (text : Job → L → List ℕ) (names job : Job) (sl
     → lines_text (text names) slice ++ last_line ended ≡ lines_text (text job) lines ++ last_line ended
 as-sent {L} text names job slice lines ended own same = ap₂ (λ (j : Job) (ls : List L). lines_text (text j) ls ++ last_line ended) own same
 
+-- declared users have the kinds of the job's
+pub graph-declared : (users : List DeclaredSpec) → list_any (λ user. is_graph user.kind) users ≡ list_any (λ user. is_graph user.kind) (map spec_of users)
+graph-declared [] = refl
+graph-declared (user ∷ users) = ap (λ (b : Bool). is_graph user.kind || b) (graph-declared users)
+
+-- a user of another kind has no lines
+no-graph-lines : (job : Job) (items : List Item) (u : ℕ) (users : List Spec) → list_any (λ user. is_graph user.kind) users ≡ false → numbered_texts (user_graph job items) u users ≡ []
+no-graph-lines job items u [] none = refl
+no-graph-lines job items u (user ∷ users) none =
+    let both = or-false_both (is_graph user.kind) (list_any (λ user. is_graph user.kind) users) none in
+    rw both.0 (no-graph-lines job items (suc u) users both.1)
+
 module _ (job : Job) (form : Form) (items : List Item) (ended : Bool) where
   pub function-is : form ≡ forms.Function → (text : List ℕ) → text ≡ item_texts (function_part job) [] (reverse (reverse items))
       → text ++ last_line ended ≡ text_of form job items ended
   unfolding function_text
   function-is is text same =
       ap (λ (t : List ℕ). t ++ last_line ended) (same ∙ ap (λ (xs : List Item). item_texts (function_part job) [] xs) (reverse-reverse items))
+      ∙ ap (λ (f : Form). text_of f job items ended) (sym is)
+
+  pub graph-is : form ≡ forms.Graph → HasNoGraph job → last_line ended ≡ text_of form job items ended
+  unfolding graph_text
+  graph-is is none =
+      ap (λ (t : List ℕ). t ++ last_line ended) (sym (no-graph-lines job items 0 job.users none))
       ∙ ap (λ (f : Form). text_of f job items ended) (sym is)
 
   pub profile-is : form ≡ forms.Profile → (text : List ℕ)

@@ -1,5 +1,6 @@
 -- What is kept of a history for a text.
-use Rattle.std.specs.Prelude.{◌≡◌, ◌<◌, List, reverse}
+use Rattle.std.specs.Prelude.{◌≡◌, ◌<◌, false, List, reverse}
+use Rattle.std.specs.List.{list_any}
 use Rattle.ft_base.specs.declared.item.Item.{Item}
 use Rattle.ft_base.specs.Job.{Job}
 use Rattle.ft_hist.specs.Past.{done}
@@ -10,14 +11,21 @@ use Rattle.trace_views.specs.Counted.{AreTotals}
 use Rattle.trace_views.specs.FunctionViews.{HasFunction, HasRoom as HasRoomForLine}
 use Rattle.trace_views.specs.ProfileViews.{HasProfile}
 use Rattle.trace_views.specs.RingViews.{HasRings}
+use Rattle.trace_views.specs.Words.{is_graph}
 use Rattle.trace_print.specs.declared.kept.Kept.{Kept}
-use Rattle.trace_print.specs.declared.kept.Kept.TheVariants.{History, Function, Profile, Returned, Nothing, Rings, Totals}
+use Rattle.trace_print.specs.declared.kept.Kept.TheVariants.{History, Graph, NoGraph, Function, Profile, Returned, Nothing, Rings, Totals}
 
 -- ## of which items
+
+-- no user of the job is a graph user
+abbrev pub HasNoGraph : Job → Type 0
+HasNoGraph job = list_any (λ user. is_graph user.kind) job.users ≡ false
 
 -- it is kept of these items of a job, the latest first
 abbrev pub Has : Job → List Item → Kept → Type 0
 Has job past (History h) = past_in h ≡ past
+Has job past (Graph h) = past_in h ≡ past
+Has job past NoGraph = HasNoGraph job
 Has job past (Function v) = HasFunction job past v
 Has job past (Profile v) = HasProfile job past v
 Has job past (Returned n) = n ≡ done past
@@ -28,6 +36,8 @@ Has job past (Totals t) = AreTotals (reverse past) t
 -- it is kept of these items of a job, in order
 abbrev pub IsKeptOf : Job → List Item → Kept → Type 0
 IsKeptOf job items (History h) = h.items ≡ items
+IsKeptOf job items (Graph h) = h.items ≡ items
+IsKeptOf job items NoGraph = HasNoGraph job
 IsKeptOf job items (Function v) = HasFunction job (reverse items) v
 IsKeptOf job items (Profile v) = HasProfile job (reverse items) v
 IsKeptOf job items (Returned n) = n ≡ done (reverse items)
@@ -38,6 +48,8 @@ IsKeptOf job items (Totals t) = AreTotals items t
 -- all items are kept, and this holds of them
 abbrev pub IsAllAnd : Kept → (List Item → Type 0) → Type 0
 IsAllAnd (History h) P = P h.items
+IsAllAnd (Graph h) P = ⊥
+IsAllAnd NoGraph P = ⊥
 IsAllAnd (Function v) P = ⊥
 IsAllAnd (Profile v) P = ⊥
 IsAllAnd (Returned n) P = ⊥
@@ -56,6 +68,8 @@ pub data Content : Type 0 where
 -- for what this is kept
 abbrev pub content_of : Kept → Content
 content_of (History h) = AllItems
+content_of (Graph h) = ForForm forms.Graph
+content_of NoGraph = ForForm forms.Graph
 content_of (Function v) = ForForm forms.Function
 content_of (Profile v) = ForForm forms.Profile
 content_of (Returned n) = ForForm forms.Enabled
@@ -67,7 +81,7 @@ content_of (Totals t) = ForSummary
 abbrev pub content_for : Form → Content
 content_for forms.Log = AllItems
 content_for forms.Function = ForForm forms.Function
-content_for forms.Graph = AllItems
+content_for forms.Graph = ForForm forms.Graph
 content_for forms.Profile = ForForm forms.Profile
 content_for forms.Enabled = ForForm forms.Enabled
 content_for forms.Modules = ForForm forms.Modules
@@ -98,6 +112,8 @@ IsForSummary kept = ServesSummary (content_of kept)
 -- there is room for what is kept of one more item
 abbrev pub HasRoom : Kept → Type 0
 HasRoom (History h) = 0 < h.spare
+HasRoom (Graph h) = 0 < h.spare
+HasRoom NoGraph = Unit {0}
 HasRoom (Function v) = HasRoomForLine v
 HasRoom (Profile v) = Unit {0}
 HasRoom (Returned n) = Unit {0}

@@ -325,6 +325,11 @@ pub fn write_kept<K: Sink>(
             };
             send_lines(alloc, &names, lines.as_slice(), ended, sink)
         }
+        Kept::Graph(history) => send_text(alloc, &names, history, ended, form, sink),
+        Kept::NoGraph => {
+            let lines: Vec<GraphLine> = Vec::new(alloc);
+            send_lines(alloc, &names, lines.as_slice(), ended, sink)
+        }
         Kept::Totals(_) => unreachable!(),
     }
 }

@@ -2,10 +2,12 @@
 
 ghost use Rattle.std.specs.Prelude.{◌≡◌, IfOk, []};
 ghost use Rattle.ft_base.specs.Job.{Job as PlainJob};
+ghost use Rattle.std.specs.List.{list_any};
+ghost use Rattle.trace_views.specs.Words.{is_graph};
 ghost use Rattle.trace_print.specs.Kept.{ForSummary, Has, content_for, content_of};
 
 use crate::names::Names;
-use ft_base::{Item, NoMemory};
+use ft_base::{Item, Kind, NoMemory};
 use ft_hist::History;
 use ft_job::Job;
 use ft_machine::Taker;
@@ -13,12 +15,17 @@ use ft_words::Form;
 use std::alloc::Global;
 use trace_rings::trace_plan;
 use trace_views::{FunctionView, ProfileView, RingsView, Totals, returned_with};
+use user_specs::Spec;
 
 /// What a text needs of the items that a job has made: all of them, or what they come to.
 #[derive(Drop)]
 pub enum Kept {
     /// All items.
     History(History),
+    /// All items, for the form graph.
+    Graph(History),
+    /// Nothing, for the form graph: if no user is a graph user, it has no lines.
+    NoGraph,
     /// The lines of the form function.
     Function(FunctionView),
     /// What the users were called back for, for the form profile.
@@ -41,7 +48,14 @@ impl Kept {
         ensures form { IfOk result (λ kept. content_of kept ≡ content_for form) }
     {
         match form {
-            Form::Log | Form::Graph => Ok(Kept::History(History::with_room(alloc, 0)?)),
+            Form::Log => Ok(Kept::History(History::with_room(alloc, 0)?)),
+            Form::Graph => {
+                if has_graph(job) {
+                    Ok(Kept::Graph(History::with_room(alloc, 0)?))
+                } else {
+                    Ok(Kept::NoGraph)
+                }
+            }
             Form::Function => {
                 let names = Names::new(alloc, job)?;
                 Ok(Kept::Function(FunctionView::new(alloc, &names)?))
@@ -69,6 +83,27 @@ impl Kept {
     }
 }
 
+/// Whether the user is a graph user.
+fn is_graph_user(user: &Spec) -> bool
+    ensures { result ≡ is_graph user.now.kind }
+{
+    matches!(user.kind, Kind::Graph)
+}
+
+/// Whether one of the users is a graph user.
+fn has_graph_user(users: &[Spec]) -> bool
+    ensures { result ≡ list_any (λ user. is_graph user.kind) users.now }
+{
+    users.iter().any(|user| is_graph_user(user))
+}
+
+/// Whether a user of the job is a graph user.
+fn has_graph(job: &Job) -> bool
+    ensures { result ≡ list_any (λ user. is_graph user.kind) job.now.users }
+{
+    has_graph_user(job.specs())
+}
+
 impl Taker for Kept {
     ghost use Rattle.trace_print.specs.Kept.{HasRoom, HasTaken};
 
@@ -80,8 +115,10 @@ impl Taker for Kept {
     fn make_room(&mut self) -> Result<(), NoMemory> {
         match self {
             Kept::History(history) => history.make_room(),
+            Kept::Graph(history) => history.make_room(),
             Kept::Function(view) => view.make_room(),
-            Kept::Profile(_)
+            Kept::NoGraph
+            | Kept::Profile(_)
             | Kept::Returned(_)
             | Kept::Nothing
             | Kept::Rings(_)
@@ -92,6 +129,8 @@ impl Taker for Kept {
     fn take(&mut self, item: Item) {
         match self {
             Kept::History(history) => history.push(item),
+            Kept::Graph(history) => history.push(item),
+            Kept::NoGraph => {}
             Kept::Function(view) => view.take(&item),
             Kept::Profile(view) => view.take(&item),
             Kept::Returned(returned) => *returned = returned_with(*returned, &item),

@@ -65,8 +65,13 @@ pub fn summary_kept(alloc: Global, n: u32, kept: &Kept, ended: bool) -> Result<V
     match kept {
         Kept::History(history) => summary(alloc, n, history, ended),
         Kept::Totals(totals) => summary_of(alloc, n, *totals, ended),
-        Kept::Function(_) | Kept::Profile(_) | Kept::Returned(_) | Kept::Nothing | Kept::Rings(_) =>
-            unreachable!(),
+        Kept::Graph(_)
+        | Kept::NoGraph
+        | Kept::Function(_)
+        | Kept::Profile(_)
+        | Kept::Returned(_)
+        | Kept::Nothing
+        | Kept::Rings(_) => unreachable!(),
     }
 }
 

@@ -1,9 +1,10 @@
-use Rattle.std.proofs.Common.{◌≡◌, List, reverse, refl, sym, ap, ◌∙◌, subst}
+use Rattle.std.proofs.Common.{◌≡◌, List, [], reverse, refl, sym, ap, ◌∙◌, subst}
 use Rattle.ft_base.specs.Desk.{desk}
 use Rattle.ft_base.specs.Job.{Job, ModuleRow, funcs}
 use Rattle.ft_words.specs.declared.order.Form.TheVariants as forms
 use Rattle.trace_views.specs.EnabledText.{enabled_line_text, enabled_lines}
 use Rattle.trace_views.specs.FunctionViews.{HasFunction}
+use Rattle.trace_views.specs.GraphLines.{graph_line_text}
 use Rattle.trace_views.specs.OpenCalls.{function_line_text}
 use Rattle.trace_views.specs.ModulesText.{module_line, module_line_text, row_of_line}
 use Rattle.trace_views.specs.ProfileText.{profile_line_text}
@@ -13,8 +14,8 @@ use Rattle.trace_views.specs.RingViews.{HasRings}
 use Rattle.trace_views.specs.Words.{lines_text}
 use Rattle.trace_views.proofs.LineTexts.{lines-read}
 use Rattle.trace_print.specs.declared.kept.Kept.{Kept}
-use Rattle.trace_print.specs.Kept.{IsEnoughFor, IsKeptOf}
-use Rattle.trace_print.proofs.KeptLaws.{as-sent, enabled-is, function-is, modules-is, profile-is, rings-is}
+use Rattle.trace_print.specs.Kept.{HasNoGraph, IsEnoughFor, IsKeptOf}
+use Rattle.trace_print.proofs.KeptLaws.{as-sent, enabled-is, function-is, graph-is, modules-is, profile-is, rings-is}
 use Rattle.trace_print.proofs.forms.write_kept.Goals as goal
 
 -- ## the form function
@@ -141,3 +142,23 @@ returns-in-Rings-clause-front g c = λ items kept.
     let same = as-sent rings_line_text c.in-Ok.names job c.as_slice-in-Rings.result.now c.in-Ok-lines-2.lines.items c.args.ended own c.as_slice-in-Rings.ensures.value
     ∙ rings-is job c.args.form items c.args.ended form _ told in
     rw (← same) c.send_lines-in-Rings.ensures.front)
+
+-- ## the form graph, if no user is a graph user
+
+pub returns-in-NoGraph-clause-all : goal.returns-in-NoGraph-clause-all
+returns-in-NoGraph-clause-all g c = λ items kept.
+    (let job = c.args.job.now in
+    let none : HasNoGraph job = subst (λ (k : Kept). IsKeptOf job items k) c.in-NoGraph.is kept in
+    let form : c.args.form ≡ forms.Graph = subst (λ (k : Kept). IsEnoughFor c.args.form k) c.in-NoGraph.is c.requires.enough in
+    let same = as-sent graph_line_text c.in-Ok.names job c.as_slice-in-NoGraph.result.now [] c.args.ended c.in-Ok.ensures (c.as_slice-in-NoGraph.ensures.value ∙ c.new-lines.ensures.items)
+    ∙ graph-is job c.args.form items c.args.ended form none in
+    rw (← same) c.send_lines-in-NoGraph.ensures.all)
+
+pub returns-in-NoGraph-clause-front : goal.returns-in-NoGraph-clause-front
+returns-in-NoGraph-clause-front g c = λ items kept.
+    (let job = c.args.job.now in
+    let none : HasNoGraph job = subst (λ (k : Kept). IsKeptOf job items k) c.in-NoGraph.is kept in
+    let form : c.args.form ≡ forms.Graph = subst (λ (k : Kept). IsEnoughFor c.args.form k) c.in-NoGraph.is c.requires.enough in
+    let same = as-sent graph_line_text c.in-Ok.names job c.as_slice-in-NoGraph.result.now [] c.args.ended c.in-Ok.ensures (c.as_slice-in-NoGraph.ensures.value ∙ c.new-lines.ensures.items)
+    ∙ graph-is job c.args.form items c.args.ended form none in
+    rw (← same) c.send_lines-in-NoGraph.ensures.front)
