@@ -35,7 +35,7 @@ link() { # a file below PREFIX, and the link to it
     mkdir -p "$(dirname "$prefix/$2")"
     ln -sr "$prefix/$1" "$prefix/$2"
 }
-for name in ftcore ftjudge ftsteps ftoutcomes; do
+for name in ftcore ftjudge fttell ftoutcomes; do
     if ./prove --is-built $name; then
         put crates/$name/out/$name bin/$name
         link bin/$name $share/crates/$name/out/$name

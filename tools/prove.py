@@ -1,5 +1,5 @@
 #!/usr/bin/env python3
-"""Proves a program's crates and builds the program: ./prove [PROGRAM], ftcore, ftjudge, ftsteps or ftoutcomes, or all; ftcore if none is named
+"""Proves a program's crates and builds the program: ./prove [PROGRAM], ftcore, ftjudge, fttell or ftoutcomes, or all; ftcore if none is named
 
 The crates that the program stands on, without tests and without must-fail edits, are copied to a folder of their own and
 checked there by `rt ci`: side by side if they don't wait for each other, on all processors, as memory allows. What is proved

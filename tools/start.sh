@@ -1,5 +1,5 @@
 #!/usr/bin/env bash
-# Runs a program of the repository: tools/start.sh NAME WORDS.. is what ./ftcore, ./ftjudge, ./ftsteps and ./ftoutcomes do. Once
+# Runs a program of the repository: tools/start.sh NAME WORDS.. is what ./ftcore, ./ftjudge, ./fttell and ./ftoutcomes do. Once
 # ./prove has built it, that is the proved program, and nothing is said or done besides. Until then, and after a source has
 # changed, the answer is that of an unproved build with run-time checks, which is made first, is kept until a source changes, and
 # is named in a line on standard error.
@@ -44,8 +44,8 @@ trap 'rm -rf "$room"' EXIT
 : >"$room/input"
 case $name:${1-} in
 ftcore:replay | ftcore:run) head -c 64M >"$room/input" 2>/dev/null || exit 4 ;;
-ftsteps:) head -c 64M >"$room/input" 2>/dev/null || exit 4 ;;
-ftjudge:) head -c 1100M >"$room/input" 2>/dev/null || exit 4 ;;
+fttell:steps) head -c 64M >"$room/input" 2>/dev/null || exit 4 ;;
+fttell:items | ftjudge:) head -c 1100M >"$room/input" 2>/dev/null || exit 4 ;;
 ftoutcomes:random | ftoutcomes:search) head -c 64M >"$room/input" 2>/dev/null || exit 4 ;;
 esac
 

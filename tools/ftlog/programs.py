@@ -8,7 +8,7 @@ import sys
 from ftlog import files, runs
 from ftlog.fault import Fault
 
-NAMES = ("ftcore", "ftjudge", "ftsteps", "ftoutcomes")
+NAMES = ("ftcore", "ftjudge", "fttell", "ftoutcomes")
 DOOR = ("replay", "run", "bulk", "judge", "steps")  # the tools that only run a program
 FORMS = ("log", "function", "graph", "profile", "enabled", "modules", "rings")  # in which ftcore prints a history
 IS_INSTALLED = not (runs.TOP / "tools" / "prove.py").is_file()

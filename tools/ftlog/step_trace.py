@@ -1,4 +1,4 @@
-"""Reads a step trace: what `ftsteps` prints for a script, a line for each load, store and mark (docs/TOOLS.md, "Step traces").
+"""Reads a step trace: what `fttell steps` prints for a script, a line for each load, store and mark (docs/TOOLS.md, "Step traces").
 
 What is read is checked as it comes: each word is one of the script, each value before a step is the one that the word holds, and the items
 are those of a log of the script. So a trace of another script, or one of which lines are missing, is told.

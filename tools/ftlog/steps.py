@@ -1,4 +1,4 @@
-"""The steps of a replay, one by one, as the program ftsteps tells them."""
+"""The steps of a replay, one by one, as the program fttell tells them."""
 import os
 import re
 from typing import List, NamedTuple
@@ -40,7 +40,7 @@ class Program:
 
     def steps(self, text):
         """The steps that the actors of this script make under its schedule, in order. A turn of an actor at its end is none."""
-        came = runs.answer([self.path.resolve()], text, SECONDS)
+        came = runs.answer([self.path.resolve(), "steps"], text, SECONDS)
         out = came.out.decode("latin-1")
         if came.status is None:
             raise Fault(f"{self.path}: {came.err.decode('latin-1').strip()}")

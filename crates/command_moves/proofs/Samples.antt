@@ -1,4 +1,4 @@
--- The program of each kind of command, in a script whose stores `ftsteps` lists one by one: function a; tr, of kind function and with a pid
+-- The program of each kind of command, in a script whose stores `fttell steps` lists one by one: function a; tr, of kind function and with a pid
 -- filter; p, an fprobe; task 10.
 use Rattle.std.proofs.Common.{◌≡◌, ℕ, true, false, List, [], ◌∷◌, None, codes, refl}
 use Rattle.ft_base.specs.declared.user.Kind.TheVariants.{Function, Fprobe}

@@ -17,7 +17,7 @@ from ftlog import runs
 
 FILES = ("ftcore", "prove", "tools/start.sh", "tools/prove.py", "tools/ftlog/__init__.py", "tools/ftlog/fault.py")
 SECONDS = 60  # that a call may take beside other work
-PROGRAMS = ("ftcore", "ftjudge", "ftsteps", "ftoutcomes")
+PROGRAMS = ("ftcore", "ftjudge", "fttell", "ftoutcomes")
 CRATES = "ft_base:\nother_tests: ft_base\n" + "".join(f"{name}: ft_base\n" for name in PROGRAMS)
 SCRIPT = b"ftrace 1\n\x00\xff no line feed"
 FIRST = b"ftcore: an unproved build is made first, which takes a minute or two; it is kept until a source changes\n"

@@ -18,7 +18,7 @@ from ftlog.script_lines import SKIP, here, line_of, texts_of
 def add_words(parser):
     """Adds the words of this tool."""
     files.add_script(parser)
-    parser.add_argument("--steps", type=pathlib.Path, metavar="PATH", help="the program ftsteps, if it stands elsewhere")
+    parser.add_argument("--steps", type=pathlib.Path, metavar="PATH", help="the program fttell, if it stands elsewhere")
 
 
 def read_lines(text):
@@ -95,7 +95,7 @@ def run(options):
     for line in lines:
         if holds.holds_in(line.text) is not None:
             holds.parts_of(line.number, holds.holds_in(line.text), names)  # what can't be read is told before anything is run
-    program = steps.Program(options.steps or programs.for_tool("ftsteps"))
+    program = steps.Program(options.steps or programs.for_tool("fttell"))
     planner = Planner(program.steps, head_of(lines), names.CPU)
     found = scheduled(lines, planner, names)
     sys.stdout.buffer.write("".join(line + "\n" for line in found).encode("latin-1"))

@@ -1,6 +1,6 @@
 """A page to walk through every step of a replay: one HTML file.
 
-It reads the script and its step trace, which the program ftsteps makes if --steps names none, and writes the page to standard output, or to
+It reads the script and its step trace, which the program fttell makes if --steps names none, and writes the page to standard output, or to
 the file of --out, and then says in a line what is in it. The page needs no server and no network. It links the pages of docs/ by --docs,
 a folder or an address; else by the way from the page's folder to those of this repository.
 """
@@ -24,9 +24,9 @@ def add_words(parser):
 
 def trace_text(text):
     """The step trace of a script, by the program."""
-    came = runs.answer([programs.for_tool("ftsteps")], text, SECONDS)
+    came = runs.answer([programs.for_tool("fttell"), "steps"], text, SECONDS)
     if came.status not in (0, REFUSED):
-        raise Fault(f"ftsteps gave no step trace: {came.err.decode() if came.status is None else f'status {came.status}'}")
+        raise Fault(f"fttell gave no step trace: {came.err.decode() if came.status is None else f'status {came.status}'}")
     return came.out
 
 

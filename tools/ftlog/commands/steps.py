@@ -1,4 +1,4 @@
-"""Has ftsteps tell each step of a replay.
+"""Has fttell tell each step of a replay.
 
 A line has the turn, the actor, what it does with which word, and what the word held before and after. The statuses are those of ftcore.
 """
@@ -12,4 +12,4 @@ def add_words(parser):
 
 def run(options):
     """Prints them, and gives the status."""
-    return programs.hand_on("ftsteps", [], options.script)
+    return programs.hand_on("fttell", ["steps"], options.script)

@@ -3,7 +3,7 @@ import pathlib
 import shutil
 
 TOP = pathlib.Path(__file__).resolve().parents[3]
-PROGRAMS = ("ftcore", "ftjudge", "ftsteps", "ftoutcomes")  # the crates that are programs for users, the first one above all
+PROGRAMS = ("ftcore", "ftjudge", "fttell", "ftoutcomes")  # the crates that are programs for users, the first one above all
 PARTS = ("src", "specs", "proofs")  # what a proof reads of a crate
 STREAMS = ("args", "stdin", "stdout", "status", "data")  # what a program is run on
 

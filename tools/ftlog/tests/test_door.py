@@ -44,7 +44,7 @@ class Door(unittest.TestCase):
         for words, told, text in [
                 ("replay x.ft", "ftcore replay --print log", SCRIPT), ("replay", "ftcore replay --print log", GIVEN),
                 ("replay x.ft --print function", "ftcore replay --print function", SCRIPT), ("run --print=graph -", "ftcore run --print graph", GIVEN),
-                ("bulk --seed 07", "ftcore bulk --seed 07", ""), ("steps x.ft", "ftsteps", SCRIPT), ("judge", "ftjudge", GIVEN),
+                ("bulk --seed 07", "ftcore bulk --seed 07", ""), ("steps x.ft", "fttell steps", SCRIPT), ("judge", "ftjudge", GIVEN),
                 ("judge x.ft", "ftjudge", SCRIPT), ("judge x.ft x.log", "ftjudge", f"{SCRIPT}log\n{LOG}"), ("judge x.ft -", "ftjudge", f"{SCRIPT}log\n{GIVEN}")]:
             came = self.call(*words.split(), text=GIVEN.encode())
             self.assertEqual((came.status, came.out.decode(), came.err), (0, f"{told}\n{text}", b""), words)
@@ -91,8 +91,8 @@ class Door(unittest.TestCase):
 
     def test_install(self):
         """What is built is put below a folder, which can be moved; it is replaced and taken away, and nothing of others is."""
-        program(self.top, 'case $2 in ftcore | ftsteps) ;; *) exit 1 ;; esac', "prove")  # tells which programs are built
-        for name in ("ftcore", "ftsteps"):
+        program(self.top, 'case $2 in ftcore | fttell) ;; *) exit 1 ;; esac', "prove")  # tells which programs are built
+        for name in ("ftcore", "fttell"):
             (self.top / "crates" / name / "out").mkdir(parents=True, exist_ok=True)
             program(self.top / "crates" / name / "out", ECHO, name)
         script, prefix, moved = self.top / "tools/install.sh", self.top / "pre fix", self.top / "moved"
@@ -101,7 +101,7 @@ class Door(unittest.TestCase):
             self.assertEqual((came.status, came.err, came.out.count(b"left out: ")), (0, b"", 2))
         (prefix / "bin" / "other").touch()
         prefix.rename(moved)
-        for words, wanted in ((["replay", "x.ft"], b"ftcore replay --print log\nftrace 1\nfunc a\n"), (["steps", "x.ft"], b"ftsteps\nftrace 1\nfunc a\n")):
+        for words, wanted in ((["replay", "x.ft"], b"ftcore replay --print log\nftrace 1\nfunc a\n"), (["steps", "x.ft"], b"fttell steps\nftrace 1\nfunc a\n")):
             self.assertEqual(runs.answer([moved / "bin" / "ft", *words], cwd=self.top)[:3], (0, wanted, b""))
         self.assertIn(b"install it from the repository", runs.answer([moved / "bin" / "ft", "judge", "x.ft"], cwd=self.top).err)
         for words, said in ((["moved", "more"], b"[--remove] PREFIX"), ([""], b"is empty"), (["--remove", "."], b"nothing is installed")):

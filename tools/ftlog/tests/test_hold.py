@@ -1,4 +1,4 @@
-"""Tests of `ft hold`: the language of hold comments, and the schedules that they come to. The latter are left out as long as ftsteps isn't built."""
+"""Tests of `ft hold`: the language of hold comments, and the schedules that they come to. The latter are left out as long as fttell isn't built."""
 import tempfile
 import unittest
 
@@ -6,7 +6,7 @@ from ftlog import holds, programs, runs, steps
 from ftlog.fault import Fault
 from ftlog.tests.called import ft, program
 
-STEPS = programs.built("ftsteps")
+STEPS = programs.built("fttell")
 JOB = "ftrace 1\nfunc a\nuser tr function\ncpu 0 quantum 100\ntask 10 cpu 0\ncall a\nret\nctl register tr\n"
 NAMES = holds.Names(["0"], ["a", "a.b"], ["tr"], ["10"])
 
@@ -75,7 +75,7 @@ def hold(text):
     return ft("hold", "--steps", STEPS, text=text.encode("latin-1"))
 
 
-@unittest.skipUnless(STEPS.is_file(), "there is no ftsteps")
+@unittest.skipUnless(STEPS.is_file(), "there is no fttell")
 class Schedules(unittest.TestCase):
     def test_each_comment_comes_to_its_line(self):
         for said, line in SCHEDULES:
@@ -148,7 +148,7 @@ class Patterns(unittest.TestCase):
             self.assertIsNone(holds.holds_in(text))
 
 
-@unittest.skipUnless(STEPS.is_file(), "there is no ftsteps")
+@unittest.skipUnless(STEPS.is_file(), "there is no fttell")
 class Wrong(unittest.TestCase):
     def require_fault(self, came, *parts):
         self.assertEqual((came.status, came.out), (2, ""), came)

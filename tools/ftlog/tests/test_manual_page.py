@@ -52,8 +52,8 @@ class ManualPages(unittest.TestCase):
 
     def test_forms(self):
         """What stands on pages, for man."""
-        self.assertEqual(manuals.inline("*a* **b** `-c'` [`d` e](F.md#g) h\\i `./ftsteps` (`./prove ftsteps`)"),
-                         r"\fIa\fR \fIb\fR \fB\-c\(aq\fR \fBd\fR e h\ei \fBftsteps\fR")
+        self.assertEqual(manuals.inline("*a* **b** `-c'` [`d` e](F.md#g) h\\i `./fttell` (`./prove fttell`)"),
+                         r"\fIa\fR \fIb\fR \fB\-c\(aq\fR \fBd\fR e h\ei \fBfttell\fR")
         self.assertEqual(manuals.filled("One. `./prove x` is two, a. Three.\n.four"), "One. Three. .four\n")
         self.assertEqual(manuals.for_man("code", "    .x\n      y-z"), ".PP\n.RS 4\n.nf\n\\&.x\n  y\\-z\n.fi\n.RE\n")
         table = "| a | b | c |\n|---|---|---|\n| 1 | `x\\|y` | |\n"

@@ -208,7 +208,7 @@ class StepPage(Pages):
         data = self.data(self.page(self.write("x.ft", b"ftrace 1\n"), self.write("x.steps", b"end\n")))
         self.assertEqual(([], [], "end"), (data["steps"]["turn"], data["items"], data["last"]))
 
-    @unittest.skipUnless(programs.built("ftsteps").exists(), "ftsteps isn't built")
+    @unittest.skipUnless(programs.built("fttell").exists(), "fttell isn't built")
     def test_the_program_makes_these_traces(self):
         for name in NAMES:
             self.assertEqual(self.files(name)[1].read_bytes(), step_page.trace_text(self.files(name)[0].read_bytes()))
@@ -261,7 +261,7 @@ class StepPage(Pages):
 
     def test_the_program_gives_the_trace(self):
         script, steps = self.files("first_path")
-        program = self.write("ftsteps", f"#!/bin/sh\ncat > /dev/null\ncat {steps}\n".encode())
+        program = self.write("fttell", f"#!/bin/sh\ncat > /dev/null\ncat {steps}\n".encode())
         program.chmod(0o755)
         with mock.patch.object(programs, "built", lambda name: program):
             self.assertIn('"last":"end"', ft("step-page", script)[1])

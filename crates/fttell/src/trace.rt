@@ -1,12 +1,15 @@
 //! The step trace of a replay.
 
-use crate::names::Names;
+use crate::input::{read_input, refuse};
+use crate::names::WordNames;
 use crate::numbers::{put_decimal, put_hexadecimal};
+use ft_base::limits::INPUT_BYTES;
 use ft_base::{Actor, NoMemory};
-use ft_io::{Pieces, Sink, Status};
+use ft_io::{Pieces, Sink, Source, Status};
 use ft_job::Job;
 use ft_machine::{Machine, replay};
 use ft_schedule::Player;
+use ft_script::read_script;
 use script_text::first_line;
 use std::alloc::Global;
 use trace_print::{Form, print};
@@ -21,17 +24,34 @@ fn log_of(alloc: Global, job: &Job) -> Result<Vec<u8>, NoMemory> {
     print(alloc, job, &outcome.history, outcome.ended, Form::Log)
 }
 
-/// Writes the step trace of a job's replay.
-pub(crate) fn write_trace<K: Sink>(alloc: Global, job: &Job, sink: &mut K) -> Status {
-    let Ok(mut pieces) = Pieces::new(alloc) else {
-        return Status::NoMemory;
+/// Reads a script, and writes the step trace of its replay, or the line of its refusal. All memory is had
+/// before the first byte is written.
+pub(crate) fn trace_script<S: Source, K: Sink>(
+    alloc: Global,
+    source: &mut S,
+    sink: K,
+) -> (Status, K) {
+    let script = match read_input(alloc, source, INPUT_BYTES) {
+        Ok(script) => script,
+        Err(status) => return (status, sink),
     };
-    if put_trace(&mut pieces, sink, alloc, job).is_err() {
-        return Status::NoMemory;
+    match read_script(alloc, &script) {
+        Ok(job) => write_trace(alloc, &job, sink),
+        Err(fault) => refuse(alloc, fault, sink),
     }
-    match pieces.finish(sink) {
-        Ok(()) => Status::Done,
-        Err(_) => Status::WriteFault,
+}
+
+/// Writes the step trace of a job's replay.
+fn write_trace<K: Sink>(alloc: Global, job: &Job, mut sink: K) -> (Status, K) {
+    let Ok(mut pieces) = Pieces::new(alloc) else {
+        return (Status::NoMemory, sink);
+    };
+    if put_trace(&mut pieces, &mut sink, alloc, job).is_err() {
+        return (Status::NoMemory, sink);
+    }
+    match pieces.finish(&mut sink) {
+        Ok(()) => (Status::Done, sink),
+        Err(_) => (Status::WriteFault, sink),
     }
 }
 
@@ -44,9 +64,7 @@ fn put_trace<K: Sink>(
 ) -> Result<(), NoMemory> {
     let log = log_of(alloc, job)?;
     let map = WordMap::new(job.shape());
-    let Ok(names) = Names::new(alloc, job, map) else {
-        return Err(NoMemory);
-    };
+    let names = WordNames::new(alloc, job, map)?;
     let mut machine = Machine::start(alloc, job)?;
     put_steps(pieces, sink, job, &names, &mut machine, &log);
     Ok(())
@@ -58,7 +76,7 @@ fn put_steps<K: Sink>(
     pieces: &mut Pieces,
     sink: &mut K,
     job: &Job,
-    names: &Names,
+    names: &WordNames<'_>,
     machine: &mut Machine,
     log: &[u8],
 ) {
@@ -86,7 +104,7 @@ fn put_steps<K: Sink>(
 fn put_step<'a, K: Sink>(
     pieces: &mut Pieces,
     sink: &mut K,
-    names: &Names,
+    names: &WordNames<'_>,
     machine: &mut Machine,
     actor: Actor,
     op: Op,
@@ -103,7 +121,7 @@ fn put_step<'a, K: Sink>(
     put_actor(pieces, sink, actor);
     pieces.put(sink, verb.as_bytes());
     if let Some(word) = names.word(place) {
-        pieces.put(sink, word.name.as_bytes());
+        names.put(pieces, sink, word);
         put_value(pieces, sink, word.hexadecimal, before);
         put_value(pieces, sink, word.hexadecimal, after);
     }

@@ -1,5 +1,5 @@
 use Rattle.std.proofs.Common.{length}
-use Rattle.ftsteps.proofs.trace.put_steps.Given as goal
+use Rattle.fttell.proofs.trace.put_steps.Given as goal
 
 abbrev pub decreases-loop-actor : goal.decreases-loop-actor
 decreases-loop-actor g l = length l.player
