@@ -1,12 +1,12 @@
 -- For each clause of the profile an item that it alone lets follow a past, and one that it doesn't let follow either.
-use Rattle.std.proofs.Common.{◌≡◌, ℕ, zero, suc, ◌≤◌, ◌<◌, true, false, List, [], ◌∷◌, Some, None, IsSome, ◌==◌, refl, sym, arith, inl, inr, ne_eqb}
-use Rattle.std.specs.List.{AllByRecursion as Each}
+use Rattle.std.proofs.Common.{◌≡◌, ℕ, zero, suc, ◌≤◌, ◌<◌, ◌⊎◌, true, false, List, [], ◌∷◌, Some, None, IsSome, ◌==◌, refl, sym, arith, inl, inr, ne_eqb}
+use Rattle.std.specs.List.{list_any, AllByRecursion as Each}
 use Rattle.ft_base.specs.declared.context.Ctx.TheVariants.{Normal}
 use Rattle.ft_base.specs.declared.item.Ran.TheVariants.{Own, List as ByList}
 use Rattle.ft_base.specs.declared.item.Reason.TheVariants.{Recursion}
 use Rattle.ft_base.specs.declared.item.Answer.TheVariants.{Accepted}
 use Rattle.ft_base.specs.declared.item.Item.{Item}
-use Rattle.ft_base.specs.declared.item.Item.TheVariants.{Begin, Return, Enter, Back, BackEnd, Body, Leave, Exit, ExitEnd}
+use Rattle.ft_base.specs.declared.item.Item.TheVariants.{Begin, Return, Enter, Back, BackEnd, Refuse, Body, Leave, Exit, ExitEnd}
 use Rattle.ft_base.specs.declared.number.CallNo.{CallNo}
 use Rattle.ft_base.specs.declared.number.UserNo.{UserNo}
 use Rattle.ft_base.specs.declared.task.TaskAct.TheVariants.{Call, Ret as RetAct, After}
@@ -14,10 +14,10 @@ use Rattle.ft_base.specs.declared.user.Kind.TheVariants.{Function, Fprobe}
 use Rattle.ft_base.specs.Job.{Job, Ctl, Register, Unregister, Filter, Disable, Run}
 use Rattle.ft_base.specs.Desk.{desk, is_on, is_live}
 use Rattle.ft_base.proofs.Small.{false_true}
-use Rattle.ft_hist.specs.Past.{all_visits, is_of, Visit}
+use Rattle.ft_hist.specs.Past.{all_visits, entry_of, is_of, Visit}
 use Rattle.ft_hist.specs.Plain.{plain, after_item}
 use Rattle.ft_hist.specs.Rules as strict
-use Rattle.ft_hist.specs.Rules.{AtReturnedOrBegun}
+use Rattle.ft_hist.specs.Rules.{AtReturnedOrBegun, InWindow}
 use Rattle.ft_hist.proofs.NotLegal.{between}
 use Rattle.ft_hist.proofs.SmallJobs.{call_in, plain_user, one_task, recursion}
 use Rattle.kernel_rules.specs.declared.line.ExitOrder.TheVariants.{AsEntered, Reversed}
@@ -254,7 +254,7 @@ unfolding desk all_visits plain after_item
 refusal_lacks = record {
   run = λ t. runs t;
   callbacks' = tt;
-  silence = λ user lt alone. inr (refused user lt);
+  silence = (refused ∷ [], (could, tt, tt), λ user lt alone. lacked user lt);
   refusals = tt;
   exits = tt;
   fetches = record { fetched = (1, omega arith, omega arith, refl); only = tt; one = omega arith; runs = refl };
@@ -265,15 +265,23 @@ refusal_lacks = record {
     runs zero = refl
     runs (suc t) = idle recursion (suc t) (Body two (record { 0 = 1 }) (Own u) ∷ within) (other t, (other t, (other t, (other t, (refl, (refl, tt))))))
 
-    refused : (user : ℕ) → user < 1 → direct.CouldRefuse recursion within two user
-    refused zero lt = record {
-      before = within;
-      since = [];
-      cut = refl;
-      entered' = refl;
-      between = refl;
+    refused : direct.Lacked
+    refused = record { user = u; reason = Recursion; before = within }
+
+    refuses : (t : ℕ) → IsSome (plain recursion t (Refuse two u Recursion ∷ within))
+    refuses zero = refl
+    refuses (suc t) = idle recursion (suc t) (Refuse two u Recursion ∷ within) (other t, (other t, (other t, (other t, (refl, (refl, tt))))))
+
+    could : direct.CouldRefuse recursion within two refused
+    could = record {
+      cut = ([], refl);
+      run = λ t. refuses t;
       may = record { on = (1, omega arith, omega arith, refl, λ le. refl); once = refl; order = tt };
-      why = (Recursion, (λ e. false_true e, omega arith));
+      why = (λ e. false_true e, omega arith);
+      once = refl;
       order = tt;
     }
-    refused (suc user) lt = absurd (omega (arith, lt))
+
+    lacked : (user : ℕ) → user < 1 → InWindow two within (λ k. is_on (desk recursion k) user (entry_of two within).func ≡ false) ⊎ (list_any (λ r. r.user.0 == user) (refused ∷ []) ≡ true)
+    lacked zero lt = inr refl
+    lacked (suc user) lt = absurd (omega (arith, lt))

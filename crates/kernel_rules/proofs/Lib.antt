@@ -1,3 +1,12 @@
 pub mod Weaker
 pub mod Reading
 pub mod Guards
+pub mod Thinned
+pub mod Runs
+pub mod Places
+pub mod Merging
+pub mod Parts
+pub mod Told
+pub mod Removing
+pub mod Lacks
+pub mod Lines
