@@ -25,18 +25,18 @@ use Rattle.kernel_rules.proofs.Told.{both-of, each-none, none-each, parts-of}
 use Rattle.kernel_rules.proofs.Parts.{entry-alike, since-alike, why-alike, window-alike}
 use Rattle.kernel_rules.proofs.Removing.{history-runs, line-runs, run-down, visit-down}
 
-each-and : {X : Type 0} (P Q : X → Type 0) (xs : List X) → Each P xs → Each Q xs → Each (λ x. P x × Q x) xs
+pub each-and : {X : Type 0} (P Q : X → Type 0) (xs : List X) → Each P xs → Each Q xs → Each (λ x. P x × Q x) xs
 each-and P Q [] p q = tt
 each-and P Q (x ∷ xs) p q = ((p.0, q.0), each-and P Q xs p.1 q.1)
 
-eq-sym : (a b : ℕ) → (a == b) ≡ false → (b == a) ≡ false
+pub eq-sym : (a b : ℕ) → (a == b) ≡ false → (b == a) ≡ false
 eq-sym a b h = by (b == a) refl
   where
     by : (x : Bool) → (b == a) ≡ x → (b == a) ≡ false
     by true e = absurd (false_true (sym h ∙ ap (λ n. a == n) (eqb-true b a e) ∙ ==-refl a))
     by false e = e
 
-each-pairs : {X : Type 0} (P Q R : X → Type 0) (xs : List X) → ((x : X) → P x → Q x → R x) → Each P xs → Each Q xs → Each R xs
+pub each-pairs : {X : Type 0} (P Q R : X → Type 0) (xs : List X) → ((x : X) → P x → Q x → R x) → Each P xs → Each Q xs → Each R xs
 each-pairs P Q R [] f p q = tt
 each-pairs P Q R (x ∷ xs) f p q = (f x p.0 q.0, each-pairs P Q R xs f p.1 q.1)
 
@@ -54,7 +54,7 @@ visitor c (Back d u) = if same_call d c then u.0 ∷ [] else []
 visitor c (Refuse d u reason) = if same_call d c then u.0 ∷ [] else []
 visitor c _ = []
 
-visitor-drawn : (c : CallNo) (past : List Marked) (x item : Item) → IsDrawn past x item → visitor c x ≡ visitor c item
+pub visitor-drawn : (c : CallNo) (past : List Marked) (x item : Item) → IsDrawn past x item → visitor c x ≡ visitor c item
 visitor-drawn c past x (Exit d u place) e = rw e refl
 visitor-drawn c past x (Body d g ran) e = rw (e.1) refl
 visitor-drawn c past x item e = rw e refl

@@ -10,3 +10,9 @@ pub mod Told
 pub mod Removing
 pub mod Lacks
 pub mod Lines
+pub mod Wanted
+pub mod Inserting
+pub mod Filling
+pub mod Stepping
+pub mod Choosing
+pub mod Reader

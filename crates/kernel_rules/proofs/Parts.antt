@@ -15,7 +15,7 @@ use Rattle.ft_base.specs.Kinds.{has_exit}
 use Rattle.ft_base.proofs.Small.{Each-weaker, ==-refl, false_true, and_both}
 use Rattle.ft_hist.specs.Past.{is_of, done, begun, entry_of, Callback, Visit, held, miss_after, miss_due, since_now}
 use Rattle.ft_hist.specs.Plain.{plain, PlainTask, after_item, Frame, Phase, InBack, in_phase, on_top}
-use Rattle.ft_hist.specs.Rules.{InWindow, KeepsCommands, KeepsPlainRun, KeepsRefusals, MayRefuse, PassesAll, acts_passed}
+use Rattle.ft_hist.specs.Rules.{InWindow, KeepsCommands, KeepsPlainRun, KeepsRefusals, MayMiss, MayRefuse, PassesAll, acts_passed}
 use Rattle.ft_hist.proofs.Steps.{own-step, same_call-eq, Step, step_back}
 use Rattle.kernel_rules.specs.Rules.{AtSome, IsStill, unregisters}
 use Rattle.kernel_rules.proofs.Thinned.{Alike, alike, thinned}
@@ -182,3 +182,12 @@ module _ (job : Job) where
           let h = fresh t c u past (subst (λ (n : ℕ). last_back n c u.0 past ≡ true) task last) (some t) in
           rw h.is (h.miss (done past))
       by false other = some t
+
+  pub miss-run : (c : CallNo) (u : UserNo) (past : List Item) → MayMiss job past c u.0 → ((t : ℕ) → IsSome (plain job t past)) → KeepsPlainRun job past (Miss c u)
+  miss-run c u past may some = of (miss_due job c.task.0 past) refl may.0 may.1
+    where
+      of : (o : Option Callback) → miss_due job c.task.0 past ≡ o → IfSome o (λ m. (m.call ≡ c) × (m.user ≡ u.0)) → IsSome o → KeepsPlainRun job past (Miss c u)
+      of None e is h = false_true h
+      of (Some m) e is h =
+          fresh-run c u past
+          (subst (λ (d : CallNo). last_back c.task.0 d u.0 past ≡ true) is.0 (subst (λ (v : ℕ). last_back c.task.0 m.call v past ≡ true) is.1 (due-back c.task.0 past m e))) some

@@ -27,7 +27,7 @@ use Rattle.kernel_rules.proofs.Thinned.{Alike, alike, bare, thinned}
 use Rattle.kernel_rules.proofs.Places.{IsDrawn, drawn, line-place, place_of, thin-told}
 use Rattle.kernel_rules.proofs.Merging.{at_place}
 use Rattle.kernel_rules.proofs.Told.{ToldBy, after-lines, any-map, backs-told, each-unmap, exits-told, once-down, only-down, parts-of, replaced-alike, same-place}
-use Rattle.kernel_rules.proofs.Parts.{commands-alike, due-back, fresh-run, on-alike, refusals-alike, return-alike, run-on, since-alike, window-alike}
+use Rattle.kernel_rules.proofs.Parts.{miss-run, on-alike, return-alike, run-on, since-alike}
 
 -- each task has a run
 pub history-runs : (by : ExitOrder) (job : Job) (past : List Item) → IsLegalPast by job past → (t : ℕ) → IsSome (plain job t past)
@@ -46,7 +46,7 @@ bare-drawn past x (Exit c u place) e = rw e refl
 bare-drawn past x (Body c g ran) e = rw (e.1) refl
 bare-drawn past x item e = rw e refl
 
-of-drawn : (t : ℕ) (past : List Marked) (x item : Item) → IsDrawn past x item → is_of t x ≡ is_of t item
+pub of-drawn : (t : ℕ) (past : List Marked) (x item : Item) → IsDrawn past x item → is_of t x ≡ is_of t item
 of-drawn t past x (Exit c u place) e = rw e refl
 of-drawn t past x (Body c g ran) e = rw (e.1) refl
 of-drawn t past x item e = rw e refl
@@ -57,7 +57,7 @@ is_body _ = false
 
 module _ (job : Job) where
   -- a Miss that is due in the history is due after the lines
-  after-drawn : (x item : Item) (marked : List Marked) (past past' : List Item) → Alike job past past' → IsDrawn marked x item → miss_after job x past ≡ miss_after job item past'
+  pub after-drawn : (x item : Item) (marked : List Marked) (past past' : List Item) → Alike job past past' → IsDrawn marked x item → miss_after job x past ≡ miss_after job item past'
   after-drawn x (Back c u) marked past past' a e = rw (e, a.held' c) refl
   after-drawn x (Exit c u place) marked past past' a e = rw e refl
   after-drawn x (Body c g ran) marked past past' a e = rw (e.1) refl
@@ -110,18 +110,8 @@ module _ (by : ExitOrder) (job : Job) (lines : List Line) (past : List Marked) (
       of None e is some = false_true some
       of (Some m) e is some = rw (due-told job c.task.0 lines past t m e) (is, refl)
 
-  miss-run : (c : CallNo) (u : UserNo) → MayMiss job xs c u.0 → KeepsPlainRun job xs (Miss c u)
-  miss-run c u may = of (miss_due job c.task.0 xs) refl may.0 may.1
-    where
-      of : (o : Option Callback) → miss_due job c.task.0 xs ≡ o → IfSome o (λ m. (m.call ≡ c) × (m.user ≡ u.0)) → IsSome o → KeepsPlainRun job xs (Miss c u)
-      of None e is some = false_true some
-      of (Some m) e is some =
-          fresh-run job c u xs
-          (subst (λ (d : CallNo). Rattle.kernel_rules.proofs.Parts.last_back c.task.0 d u.0 xs ≡ true) is.0
-          (subst (λ (v : ℕ). Rattle.kernel_rules.proofs.Parts.last_back c.task.0 m.call v xs ≡ true) is.1 (due-back job c.task.0 xs m e))) runs
-
   pub run-down : (item : Item) → KeepsPlainRun job hs item → profile.KeepsExits by job hs item → KeepsPlainRun job xs item
-  run-down (Miss c u) run e = miss-run c u (miss-down c u e)
+  run-down (Miss c u) run e = miss-run job c u xs (miss-down c u e) runs
   run-down item run e = run-on job hs xs same hruns runs item refl run
 
   -- ## callbacks

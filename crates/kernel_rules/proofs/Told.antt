@@ -52,7 +52,7 @@ pub any-map : {X Y : Type 0} (f : X → Y) (p : Y → Bool) (q : X → Bool) →
 any-map f p q same [] = refl
 any-map f p q same (x ∷ xs) = ap₂ (λ a b. a || b) (same x) (any-map f p q same xs)
 
-nothing : {X : Type 0} (xs : List X) → Each (λ x. ⊥) xs → xs ≡ []
+pub nothing : {X : Type 0} (xs : List X) → Each (λ x. ⊥) xs → xs ≡ []
 nothing [] h = refl
 nothing (x ∷ xs) h = absurd h.0
 

@@ -16,7 +16,7 @@ use Rattle.ft_hist.specs.Rules.{AreExitsDone, InWindow, IsUnvisited, KeepsComman
 use Rattle.kernel_rules.specs.declared.line.ExitOrder.{ExitOrder}
 use Rattle.kernel_rules.specs.declared.line.Line.{Line}
 use Rattle.kernel_rules.specs.declared.line.Line.TheVariants.{Seen, Unfetched}
-use Rattle.kernel_rules.specs.Rules.{KeepsCallbacks, MayExit, MayVisit}
+use Rattle.kernel_rules.specs.Rules.{IsAtEnd, KeepsCallbacks, MayExit, MayVisit}
 
 -- the item of a line
 abbrev pub item_of : Line → Item
@@ -97,3 +97,7 @@ pub record MayFollow (by : ExitOrder) (job : Job) (past : List Item) (line : Lin
 unfoldable pub AreLegal : ExitOrder → Job → List Line → Type 0
 AreLegal by job [] = Unit {0}
 AreLegal by job (line ∷ lines) = MayFollow by job (map item_of lines) line × AreLegal by job lines
+
+-- legal lines at whose end all commands have returned and each task is at the end of its run
+abbrev pub AreWhole : ExitOrder → Job → List Line → Type 0
+AreWhole by job lines = AreLegal by job lines × IsAtEnd job (map item_of lines)

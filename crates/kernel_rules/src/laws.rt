@@ -2,14 +2,14 @@
 //!
 //! None of the functions does anything: a law is proved where a contract names it.
 
-ghost use Rattle.std.specs.Prelude.{List, reverse};
+ghost use Rattle.std.specs.Prelude.{◌↔◌, List, reverse};
 ghost use Rattle.ft_base.specs.Job.{Job as PlainJob};
 ghost use Rattle.ft_base.specs.declared.item.Item.{Item};
 ghost use Rattle.ft_hist.specs.Rules as strict;
 ghost use Rattle.kernel_rules.specs.declared.line.ExitOrder.{ExitOrder};
 ghost use Rattle.kernel_rules.specs.declared.line.ExitOrder.TheVariants.{AsEntered};
 ghost use Rattle.kernel_rules.specs.declared.line.Line.{Line};
-ghost use Rattle.kernel_rules.specs.Direct.{AreLegal};
+ghost use Rattle.kernel_rules.specs.Direct.{AreLegal, AreWhole};
 ghost use Rattle.kernel_rules.specs.Recorded.{IsLegalLog, IsWholeLog, seen_lines};
 ghost use Rattle.kernel_rules.specs.Rules.{IsLegal, IsWhole};
 
@@ -25,7 +25,9 @@ pub fn logs_of_legal_histories_are_legal()
     ensures whole { (job : PlainJob) (items : List Item) → strict.IsWhole job items → IsWholeLog AsEntered job (seen_lines items) }
 {}
 
-/// A log is legal exactly if its lines are, of which each is judged by the lines before it.
+/// A log tells a legal history exactly if its lines are legal, of which each is judged by the lines before it;
+/// and it tells a whole one exactly if besides they are at their end.
 pub fn a_log_is_legal_by_its_lines()
-    ensures told { (by : ExitOrder) (job : PlainJob) (log : List Line) → IsLegalLog by job log → AreLegal by job (reverse log) }
+    ensures legal { (by : ExitOrder) (job : PlainJob) (log : List Line) → IsLegalLog by job log ↔ AreLegal by job (reverse log) }
+    ensures whole { (by : ExitOrder) (job : PlainJob) (log : List Line) → IsWholeLog by job log ↔ AreWhole by job (reverse log) }
 {}
