@@ -1,16 +1,16 @@
 -- A history that legal lines tell, with the refusals that they and later lines want to lack, and with each Miss that is due.
-use Rattle.std.proofs.Common.{cond, ◌≡◌, ℕ, inl, inr, Bool, true, false, ◌==◌, List, [], ◌∷◌, map, Option, Some, None, IsSome, refl, sym, ap, ◌∙◌, subst, arith, eqb-true}
+use Rattle.std.proofs.Common.{cond, ◌≡◌, ℕ, inl, inr, Bool, true, false, ◌==◌, List, ◌∷◌, map, Option, Some, None, IsSome, refl, sym, ap, ◌∙◌, subst, arith, eqb-true}
 use Rattle.std.specs.List.{list_any, AllByRecursion as Each}
 use Rattle.ft_base.specs.declared.number.CallNo.{CallNo}
 use Rattle.ft_base.specs.declared.number.UserNo.{UserNo}
 use Rattle.ft_base.specs.declared.item.Item.{Item}
-use Rattle.ft_base.specs.declared.item.Item.TheVariants.{Back, Refuse, Miss}
+use Rattle.ft_base.specs.declared.item.Item.TheVariants.{Refuse, Miss}
 use Rattle.ft_base.specs.declared.item.Reason.{Reason}
 use Rattle.ft_base.specs.Same.{same_call}
 use Rattle.ft_base.specs.Job.{Job}
-use Rattle.ft_base.proofs.Small.{==-refl, Each-weaker, false_true, or-true}
-use Rattle.ft_hist.specs.Past.{Callback, Visit, all_visits, is_dispatched, is_of, miss_after, miss_due, since_now, visit, visits}
-use Rattle.ft_hist.specs.Plain.{Frame, Phase, PlainTask, Dispatch, InBack, after_item, after_miss, after_next, after_refusal, on_call, plain}
+use Rattle.ft_base.proofs.Small.{==-refl, Each-weaker, or-true}
+use Rattle.ft_hist.specs.Past.{Callback, Visit, all_visits, is_dispatched, miss_due, since_now, visit}
+use Rattle.ft_hist.specs.Plain.{plain}
 use Rattle.ft_hist.specs.Rules.{MayRefuse, NoMissDue}
 use Rattle.ft_hist.proofs.Steps.{same_call-eq}
 use Rattle.kernel_rules.specs.declared.line.ExitOrder.{ExitOrder}
@@ -20,28 +20,12 @@ use Rattle.kernel_rules.specs.Recorded.{AreTold, Lacking, Marked, history}
 use Rattle.kernel_rules.specs.Direct.{AreLegal, item_of, since_of}
 use Rattle.kernel_rules.proofs.Places.{thin-told}
 use Rattle.kernel_rules.proofs.Merging.{lacks}
-use Rattle.kernel_rules.proofs.Parts.{due-back, fresh-run, run-on, same_call-refl, since-alike, why-alike}
+use Rattle.kernel_rules.proofs.Parts.{run-on, since-alike, why-alike}
+use Rattle.kernel_rules.proofs.Misses.{back-task, due-back, fresh-run, last_back, no-back, same_call-refl}
 use Rattle.kernel_rules.proofs.Removing.{history-runs, line-runs}
 use Rattle.kernel_rules.proofs.Inserting.{visit-up}
 use Rattle.kernel_rules.proofs.Lacks.{IsAfter, IsPair, eq-sym}
 use Rattle.kernel_rules.proofs.Wanted.{IsLater, IsOf, IsOpen, Wanted}
-
--- ## a refusal and a Miss don't both come next
-
-not-both : (job : Job) (d e : ℕ) (s : PlainTask) (c c' : CallNo) (u u' : UserNo) (reason : Reason) → IsSome (after_item job d s (Refuse c u reason)) → IsSome (after_item job e s (Miss c' u')) → ⊥
-unfolding after_item
-not-both job d e s c c' u u' reason = on s.stack
-  where
-    at-phase : (a b : Bool) (f : Frame) (below : List Frame) (ph : Phase) → IsSome (cond a (after_refusal s ph) None) → IsSome (cond b (after_miss s f below u'.0 ph) None) → ⊥
-    at-phase true true f below Dispatch h k = false_true k
-    at-phase true true f below (InBack v owed fresh) h k = false_true h
-    at-phase true true f below _ h k = false_true h
-    at-phase true false f below ph h k = false_true k
-    at-phase false b f below ph h k = false_true h
-
-    on : (fs : List Frame) → IsSome (on_call fs c (λ t below. after_refusal s t.phase)) → IsSome (on_call fs c' (λ t below. after_miss s t below u'.0 t.phase)) → ⊥
-    on [] h k = false_true h
-    on (f ∷ below) h k = at-phase (same_call f.call c) (same_call f.call c') f below f.phase h k
 
 -- the user of a number
 abbrev pub user : ℕ → UserNo
@@ -50,36 +34,17 @@ user n = record { 0 = n }
 module _ (job : Job) where
   -- what is due is of the task
   pub due-task : (t : ℕ) (past : List Item) (m : Callback) → miss_due job t past ≡ Some m → (m.call.task.0 == t) ≡ true
-  due-task t [] m e = absurd cc
-  due-task t (item ∷ past) m e = by (is_of t item) refl e (due-task t past m)
-    where
-      of : (b : Bool) (c : CallNo) (u : UserNo) → (c.task.0 == t) ≡ true → cond b (Some (record { call = c; user = u.0; ctx = None })) None ≡ Some m → (m.call.task.0 == t) ≡ true
-      of true c u own e = let call' : c ≡ m.call = cc in subst (λ (d : CallNo). (d.task.0 == t) ≡ true) call' own
-      of false c u own e = absurd cc
-
-      after : (x : Item) → is_of t x ≡ true → miss_after job x past ≡ Some m → (m.call.task.0 == t) ≡ true
-      after (Back c u) own e = of _ c u own e
-      after _ own e = absurd cc
-
-      by : (b : Bool) → is_of t item ≡ b → cond b (miss_after job item past) (miss_due job t past) ≡ Some m → (miss_due job t past ≡ Some m → (m.call.task.0 == t) ≡ true) → (m.call.task.0 == t) ≡ true
-      by true own e more = after item own e
-      by false other e more = more e
+  due-task t past m e = back-task job t m.call m.user past (due-back job t past m e)
 
   -- the Miss that is due keeps the plain run
   pub due-run : (t : ℕ) (past : List Item) (m : Callback) → miss_due job t past ≡ Some m → ((v : ℕ) → IsSome (plain job v past)) → (v : ℕ) → IsSome (plain job v (Miss m.call (user m.user) ∷ past))
   due-run t past m e runs =
       fresh-run job m.call (user m.user) past
-      (subst (λ (n : ℕ). Rattle.kernel_rules.proofs.Parts.last_back n m.call m.user past ≡ true) (sym (eqb-true m.call.task.0 t (due-task t past m e))) (due-back job t past m e)) runs
+      (subst (λ (n : ℕ). last_back n m.call m.user past ≡ true) (sym (eqb-true m.call.task.0 t (due-task t past m e))) (due-back job t past m e)) runs
 
   -- no Miss is due where a refusal may come
   none-due : (c : CallNo) (u : UserNo) (reason : Reason) (past : List Item) → ((v : ℕ) → IsSome (plain job v past)) → IsSome (plain job c.task.0 (Refuse c u reason ∷ past)) → (m : Callback) → miss_due job c.task.0 past ≡ Some m → ⊥
-  unfolding plain
-  none-due c u reason past runs refuses m e =
-      both (plain job c.task.0 past) (rw (==-refl c.task.0) at refuses) (rw (due-task c.task.0 past m e) at (due-run c.task.0 past m e runs c.task.0))
-    where
-      both : (o : Option PlainTask) → IsSome (after_next job (Rattle.ft_hist.specs.Past.done past) (Refuse c u reason) o) → IsSome (after_next job (Rattle.ft_hist.specs.Past.done past) (Miss m.call (user m.user)) o) → ⊥
-      both None h k = false_true h
-      both (Some s) h k = not-both job _ _ s c m.call u (user m.user) reason h k
+  none-due c u reason past runs refuses m e = no-back job c u reason past runs refuses m.call (user m.user) (due-back job c.task.0 past m e)
 
 -- ## readings
 
@@ -92,6 +57,7 @@ module _ (by : ExitOrder) (job : Job) where
     pub only : (c : CallNo) → is_dispatched c (map item_of lines) ≡ false → Each (λ m. IsOf job c m w) (lacks job c past)
     pub all : Each (λ r. list_any (λ m. m.user == r.lacked.user.0) (lacks job r.call past) ≡ true) w
     pub due : (t : ℕ) (m : Callback) → miss_due job t (map item_of lines) ≡ Some m → miss_due job t (history past) ≡ Some m
+    pub fresh : (t : ℕ) (c : CallNo) (u : UserNo) → last_back t c u.0 (map item_of lines) ≡ true → last_back t c u.0 (history past) ≡ true
 
   -- one more refusal, where these lines stand before it
   module _ (lines : List Line) (direct : AreLegal by job lines) (r : Wanted) (w : List Wanted) (before : r.lacked.before ≡ map item_of lines) (open' : IsOpen job (map item_of lines) r) (order : Each (IsLater job r) w) (f : Filled lines w) where
@@ -154,6 +120,7 @@ module _ (by : ExitOrder) (job : Job) where
       only = λ c none. of c (same_call r.call c) refl (Each-weaker (λ m. IsOf job c m w) (λ m. IsOf job c m (r ∷ w)) (lacks job c f.past) (λ m h. inr h) (f.only c none));
       all = (rw (same_call-refl r.call, ==-refl r.lacked.user.0) refl, Each-weaker _ _ w (λ s h. there (same_call r.call s.call) s h) f.all);
       due = λ t m e. dues t (r.call.task.0 == t) refl m e;
+      fresh = λ t c u last. backs t (r.call.task.0 == t) refl c u last;
     }
       where
         of : (c : CallNo) (b : Bool) → same_call r.call c ≡ b → Each (λ m. IsOf job c m (r ∷ w)) (lacks job c f.past) → Each (λ m. IsOf job c m (r ∷ w)) (cond b (visit-here ∷ lacks job c f.past) (lacks job c f.past))
@@ -175,3 +142,8 @@ module _ (by : ExitOrder) (job : Job) where
         dues t true own m e =
             absurd (none-due job r.call r.lacked.user r.lacked.reason xs runs (refuses r.call.task.0) m (subst (λ (v : ℕ). miss_due job v xs ≡ Some m) (sym (eqb-true r.call.task.0 t own)) e))
         dues t false other m e = f.due t m e
+
+        backs : (t : ℕ) (b : Bool) → (r.call.task.0 == t) ≡ b → (c : CallNo) (u : UserNo) → last_back t c u.0 xs ≡ true → cond b false (last_back t c u.0 hs) ≡ true
+        backs t true own c u last =
+            absurd (no-back job r.call r.lacked.user r.lacked.reason xs runs (refuses r.call.task.0) c u (subst (λ (v : ℕ). last_back v c u.0 xs ≡ true) (sym (eqb-true r.call.task.0 t own)) last))
+        backs t false other c u last = f.fresh t c u last

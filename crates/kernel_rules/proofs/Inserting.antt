@@ -30,7 +30,8 @@ use Rattle.kernel_rules.proofs.Thinned.{Alike, alike, thinned}
 use Rattle.kernel_rules.proofs.Places.{IsDrawn, line-place, place_of, thin-told}
 use Rattle.kernel_rules.proofs.Merging.{at_place, lacks, lacks-none}
 use Rattle.kernel_rules.proofs.Told.{after-places, any-map, both-of, each-map, each-none, exits-told, none-each, nothing, once-down, parts-of, replaced-alike, same-place}
-use Rattle.kernel_rules.proofs.Parts.{on-alike, return-alike, same_call-refl, since-alike}
+use Rattle.kernel_rules.proofs.Parts.{on-alike, return-alike, since-alike}
+use Rattle.kernel_rules.proofs.Misses.{same_call-refl}
 use Rattle.kernel_rules.proofs.Removing.{history-runs}
 use Rattle.kernel_rules.proofs.Lacks.{IsAfter, eq-sym, visitor}
 use Rattle.kernel_rules.proofs.Wanted.{IsOf, Wanted, of-each, undispatched}

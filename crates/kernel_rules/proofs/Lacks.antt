@@ -205,7 +205,7 @@ module _ (job : Job) (c : CallNo) where
         could : CouldRefuse job xs e r
         could = record {
           cut = ([], refl);
-          run = run-down by job lines past t.1 l.1 runs (Refuse e u reason) l.0.run l.0.exits;
+          run = run-down by job lines past t.1 l.1 runs (Refuse e u reason) l.0.run;
           may = may;
           why = why-alike job (history past) xs (sym (thin-told lines past t.1)) (λ v. history-runs by job (history past) l.1 v) runs e u.0 reason l.0.refusals;
           once = may.once;

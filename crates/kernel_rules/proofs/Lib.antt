@@ -16,3 +16,5 @@ pub mod Filling
 pub mod Stepping
 pub mod Choosing
 pub mod Reader
+pub mod Misses
+pub mod Keeping

@@ -44,7 +44,7 @@ module _ (by : ExitOrder) (job : Job) where
     hruns : (v : ℕ) → IsSome (plain job v (history past))
     hruns v = history-runs by job (history past) legal v
 
-    silence : (x item : Item) → IsDrawn past x item → strict.KeepsSilence job (history past) item → direct.KeepsSilence job xs x
+    pub silence : (x item : Item) → IsDrawn past x item → strict.KeepsSilence job (history past) item → direct.KeepsSilence job xs x
     silence x (Body c g ran) e h = rw (e.1) (silent-down job c by lines past t legal direct' h)
     silence x (Exit c u place) e h = rw e tt
     silence x item e h = rw e tt
@@ -54,7 +54,7 @@ module _ (by : ExitOrder) (job : Job) where
         let d = drawn past line item tells in
         let same = sym (thin-told lines past t) in
         record {
-          run = λ v. subst (λ o. IsSome o) (sym (run-line job xs past (item_of line) item v d)) (run-down by job lines past t legal runs item m.run m.exits v);
+          run = λ v. subst (λ o. IsSome o) (sym (run-line job xs past (item_of line) item v d)) (run-down by job lines past t legal runs item m.run v);
           callbacks' = as-line (λ i. KeepsCallbacks job xs i) (λ c u e. tt) (λ c g ran. tt) past (item_of line) item d (callbacks-down by job lines past t legal runs item m.callbacks);
           silence = silence (item_of line) item d m.silence;
           refusals = as-line (λ i. KeepsRefusals job xs i) (λ c u e. tt) (λ c g ran. tt) past (item_of line) item d (refusals-alike job (history past) xs same hruns runs item m.refusals);

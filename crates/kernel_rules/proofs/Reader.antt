@@ -10,8 +10,8 @@ use Rattle.ft_base.specs.declared.task.TaskAct.{TaskAct}
 use Rattle.ft_base.specs.declared.item.Ran.TheVariants.{List as ByList}
 use Rattle.ft_base.specs.Same.{same_call}
 use Rattle.ft_base.specs.Job.{Job}
-use Rattle.ft_base.specs.Desk.{desk, target}
-use Rattle.ft_base.proofs.Small.{Each-filter, Each-weaker, ==-refl, each-all, false_true, or-false_both}
+use Rattle.ft_base.specs.Desk.{desk, is_on, target}
+use Rattle.ft_base.proofs.Small.{Each-filter, Each-weaker, ==-refl, false_true, or-false_both}
 use Rattle.ft_hist.specs.Past.{Visit, done, entry_of, is_dispatched}
 use Rattle.ft_hist.specs.Plain.{Frame, PlainTask, plain}
 use Rattle.ft_hist.specs.Rules as strict
@@ -21,7 +21,7 @@ use Rattle.kernel_rules.specs.declared.line.ExitOrder.{ExitOrder}
 use Rattle.kernel_rules.specs.declared.line.Line.{Line}
 use Rattle.kernel_rules.specs.declared.line.Line.TheVariants.{Seen, Unfetched}
 use Rattle.kernel_rules.specs.Rules.{IsAtEnd, IsLegalPast}
-use Rattle.kernel_rules.specs.Recorded.{AreTold, IsReading, Marked, Told, history}
+use Rattle.kernel_rules.specs.Recorded.{AreTold, IsReading, Marked, Told}
 use Rattle.kernel_rules.specs.Direct as direct
 use Rattle.kernel_rules.specs.Direct.{AreLegal, IsSilent, item_of}
 use Rattle.kernel_rules.proofs.Thinned.{alike, thinned}
@@ -29,12 +29,11 @@ use Rattle.kernel_rules.proofs.Runs.{run-alike, settled_frame, settled_run, sett
 use Rattle.kernel_rules.proofs.Merging.{lacks}
 use Rattle.kernel_rules.proofs.Inserting.{tells, told_as}
 use Rattle.kernel_rules.proofs.Filling.{Filled, put}
-use Rattle.kernel_rules.proofs.Stepping.{Ready, due-of, follow-up, ready}
-use Rattle.kernel_rules.proofs.Choosing.{chosen, chosen-fetched, chosen-of, chosen-open, chosen-order, chosen-silent}
-use Rattle.kernel_rules.proofs.Parts.{same_call-refl}
+use Rattle.kernel_rules.proofs.Stepping.{Ready, due-of, fresh-of, follow-up, ready}
+use Rattle.kernel_rules.proofs.Choosing.{Chosen, choose-body, choose-none}
 use Rattle.kernel_rules.proofs.Told.{nothing}
 use Rattle.kernel_rules.proofs.Lacks.{IsAfter, cut-length, each-pairs, visitor}
-use Rattle.kernel_rules.proofs.Wanted.{AreInOrder, AreWanted, IsLater, IsOf, IsOpen, Wanted, after-less, at, could-less, dispatched-less, each-append, each-parts, each-split, now, now-later, of-append, of-each, of-parts, order-append, order-filter, passes, sooner, undispatched}
+use Rattle.kernel_rules.proofs.Wanted.{AreInOrder, AreWanted, IsLater, IsOf, IsOpen, Wanted, after-less, at, could-less, dispatched-less, each-append, each-parts, each-split, now, now-later, of-append, of-each, of-parts, order-append, order-filter, passes, sooner}
 
 -- ## one more line
 
@@ -45,18 +44,7 @@ module _ (by : ExitOrder) (job : Job) (lines : List Line) (d : AreLegal by job l
   abbrev x : Item
   x = item_of line
 
-  -- the refusals that the line wants to lack, and what its body ran
-  pub record Chosen : Type 0 where
-    pub new : List Wanted
-    pub open' : Each (IsOpen job xs) new
-    pub order : AreInOrder job new
-    pub over : Each (λ r. is_dispatched r.call (x ∷ xs) ≡ true) new
-    pub apart : Each (λ r. visitor r.call x ≡ []) new
-    pub ran : Ran
-    pub silence : (r : Ready by job lines d (new ++ w) x) → strict.KeepsSilence job (history r.past) (told_as r.past ran line)
-    pub fetches : (r : Ready by job lines d (new ++ w) x) → strict.KeepsFetches job (history r.past) (told_as r.past ran line)
-
-  module _ (may : direct.MayFollow by job xs line) (wanted : AreWanted job (x ∷ xs) w) (fewer : Each (λ r. at r ≤ length xs) w) (ch : Chosen) (filled : (v : List Wanted) → AreWanted job xs v → Filled by job lines v) where
+  module _ (may : direct.MayFollow by job xs line) (wanted : AreWanted job (x ∷ xs) w) (fewer : Each (λ r. at r ≤ length xs) w) (ran : Ran) (ch : Chosen by job lines d x (λ past. told_as past ran line) w (Unit {0}) (Unit {0})) (filled : (v : List Wanted) → AreWanted job xs v → Filled by job lines v) where
     abbrev more : List Wanted
     more = ch.new ++ w
 
@@ -84,12 +72,13 @@ module _ (by : ExitOrder) (job : Job) (lines : List Line) (d : AreLegal by job l
     pub step : Filled by job (line ∷ lines) w
     unfolding AreTold IsLegalPast
     step = record {
-      past = Told (told_as r.past ch.ran line) ∷ r.past;
-      told' = (tells r.past ch.ran line, r.told');
-      legal = (follow-up by job lines d more line r ch.ran may after (ch.silence r) (ch.fetches r), r.legal);
+      past = Told (told_as r.past ran line) ∷ r.past;
+      told' = (tells r.past ran line, r.told');
+      legal = (follow-up by job lines d more line r ran may after (ch.silence tt r) (ch.fetches tt r), r.legal);
       only = λ c none. Each-weaker (λ m. IsOf job c m more) (λ m. IsOf job c m w) (lacks job c r.past) (λ m is. of c none m is) (r.only c (dispatched-less job c x xs none));
       all = (each-split _ ch.new w r.all).1;
-      due = λ t m e. due-of by job lines d more line r ch.ran t m e;
+      due = λ t m e. due-of by job lines d more line r ran t m e;
+      fresh = λ t c u e. fresh-of by job lines d more line r ran t c u e;
     }
       where
         of : (c : CallNo) → is_dispatched c (x ∷ xs) ≡ false → (m : Visit) → IsOf job c m more → IsOf job c m w
@@ -108,39 +97,23 @@ module _ (by : ExitOrder) (job : Job) where
     others : (c : CallNo) (g : FuncNo) (ran : Ran) (w : List Wanted) → AreWanted job (Body c g ran ∷ items) w → Each (λ r. same_call c r.call ≡ false) w
     others c g ran w wanted = Each-weaker (IsOpen job (Body c g ran ∷ items)) _ w (λ r h. (or-false_both (same_call c r.call) (is_dispatched r.call items) h.1).0) wanted.each
 
-    over : (c : CallNo) (g : FuncNo) (ran : Ran) (v : List Wanted) → Each (λ r. r.call ≡ c) v → Each (λ r. is_dispatched r.call (Body c g ran ∷ items) ≡ true) v
-    over c g ran v h = Each-weaker (λ r. r.call ≡ c) _ v (λ r e. subst (λ (a : CallNo). is_dispatched a (Body c g ran ∷ items) ≡ true) (sym e) (rw (same_call-refl c) refl)) h
-
-    choose : (line : Line) → direct.MayFollow by job items line → (w : List Wanted) → AreWanted job (item_of line ∷ items) w → Chosen by job lines d line w
+    choose : (line : Line) → direct.MayFollow by job items line → (w : List Wanted) → AreWanted job (item_of line ∷ items) w
+        → (ran : Ran) × Chosen by job lines d (item_of line) (λ past. told_as past ran line) w (Unit {0}) (Unit {0})
     choose (Unfetched c g) may w wanted =
-        let s = may.silence in
         let k = may.fetches.only in
-        let undone = undispatched job c items (Body c g ByList) (same_call-refl c) (may.run c.task.0) in
-        record {
-          new = chosen by job lines d c s.0 k.0;
-          open' = chosen-open by job lines d c s.0 k.0 s.1 undone;
-          order = chosen-order by job lines d c s.0 k.0 s.1;
-          over = over c g ByList (chosen by job lines d c s.0 k.0) (chosen-of by job lines d c s.0 k.0);
-          apart = each-all _ (chosen by job lines d c s.0 k.0) (λ r. refl);
-          ran = target (desk job k.0) (entry_of c items).func;
-          silence = λ r. chosen-silent by job lines d c s.0 k.0 w (others c g ByList w wanted) undone _ r k.1 k.2 s.2;
-          fetches = λ r. chosen-fetched by job lines d c s.0 k.0 w (others c g ByList w wanted) undone _ r k.1 k.2 g.0 _ refl k.3 may.fetches.one may.fetches.runs;
-        }
+        let f = (entry_of c items).func in (
+          target (desk job k.0) f,
+          choose-body by job lines d c g ByList (target (desk job k.0) f) w (others c g ByList w wanted) may.run may.silence (λ u. is_on (desk job k.0) u f) (λ u e. (k.0, k.1, k.2, e)) (Unit {0}) (Unit {0})
+              (λ _. record { command = k.0; low = k.1; high = k.2; is = refl; on = λ u e. e; only = k.3; one = may.fetches.one; runs = may.fetches.runs }),
+        )
     choose (Seen (Body c g ran)) may w wanted =
-        let s = may.silence in
         let k = may.fetches.fetched in
-        let undone = undispatched job c items (Body c g ran) (same_call-refl c) (may.run c.task.0) in
-        record {
-          new = chosen by job lines d c s.0 k.0;
-          open' = chosen-open by job lines d c s.0 k.0 s.1 undone;
-          order = chosen-order by job lines d c s.0 k.0 s.1;
-          over = over c g ran (chosen by job lines d c s.0 k.0) (chosen-of by job lines d c s.0 k.0);
-          apart = each-all _ (chosen by job lines d c s.0 k.0) (λ r. refl);
-          ran = ran;
-          silence = λ r. chosen-silent by job lines d c s.0 k.0 w (others c g ran w wanted) undone _ r k.1 k.2 s.2;
-          fetches = λ r. chosen-fetched by job lines d c s.0 k.0 w (others c g ran w wanted) undone _ r k.1 k.2 g.0 ran k.3 may.fetches.only may.fetches.one may.fetches.runs;
-        }
-    choose (Seen item) may w wanted = record { new = []; open' = tt; order = tt; over = tt; apart = tt; ran = ByList; silence = λ r. tt; fetches = λ r. tt }
+        let f = (entry_of c items).func in (
+          ran,
+          choose-body by job lines d c g ran ran w (others c g ran w wanted) may.run may.silence (λ u. is_on (desk job k.0) u f) (λ u e. (k.0, k.1, k.2, e)) (Unit {0}) (Unit {0})
+              (λ _. record { command = k.0; low = k.1; high = k.2; is = k.3; on = λ u e. e; only = may.fetches.only; one = may.fetches.one; runs = may.fetches.runs }),
+        )
+    choose (Seen item) may w wanted = (ByList, choose-none by job lines d item (λ past. told_as past ByList (Seen item)) w (Unit {0}) (Unit {0}) (λ _ r. tt) (λ _ r. tt))
 
     -- ## refusals at one place
 
@@ -172,6 +145,7 @@ module _ (by : ExitOrder) (job : Job) where
           only = λ c none. Each-weaker (λ m. IsOf job c m (now job n w ++ sooner job n w)) (λ m. IsOf job c m w) (lacks job c g.past) (λ m is. of-parts job c m n w is) (g.only c none);
           all = each-parts job _ n w g.all;
           due = g.due;
+          fresh = g.fresh;
         }
 
   sooner-than : (n : ℕ) (w : List Wanted) → Each (λ r. at r ≤ n) w → Each (λ r. at r < n) (sooner job n w)
@@ -194,14 +168,15 @@ module _ (by : ExitOrder) (job : Job) where
   fill [] d w wanted = complete [] d w wanted (subst (λ (v : List Wanted). Filled by job [] v) (sym (nothing (sooner job 0 w) (Each-weaker _ (λ r. ⊥) (sooner job 0 w) (λ r lt. omega (arith, lt)) (sooner-than 0 w (within [] d w wanted))))) start)
     where
       start : Filled by job [] []
-      start = record { past = []; told' = refl; legal = tt; only = λ c none. tt; all = tt; due = λ t m e. e }
+      start = record { past = []; told' = refl; legal = tt; only = λ c none. tt; all = tt; due = λ t m e. e; fresh = λ t c u e. e }
   fill (line ∷ lines) d w wanted =
       let n = length (map item_of (line ∷ lines)) in
       let v = sooner job n w in
       let fewer = sooner-than n w (within (line ∷ lines) d w wanted) in
       let those : AreWanted job (map item_of (line ∷ lines)) v = record { each = Each-filter _ (λ r. not (at r == n)) w wanted.each; order = order-filter job (λ r. not (at r == n)) w wanted.order } in
+      let ch = choose lines d.1 line d.0 v those in
       complete (line ∷ lines) d w wanted
-      (step by job lines d.1 line v d.0 those (Each-weaker _ _ v (λ r lt. omega (arith, lt)) fewer) (choose lines d.1 line d.0 v those) (λ u h. fill lines d.1 u h))
+      (step by job lines d.1 line v d.0 those (Each-weaker _ _ v (λ r lt. omega (arith, lt)) fewer) ch.0 ch.1 (λ u h. fill lines d.1 u h))
 
   pub lines-read : (lines : List Line) → AreLegal by job lines → (past : List Marked) × IsReading by job lines past
   lines-read lines d = let f = fill lines d [] (record { each = tt; order = tt }) in (f.past, record { told' = f.told'; legal = f.legal })

@@ -27,7 +27,8 @@ use Rattle.kernel_rules.proofs.Thinned.{Alike, alike, bare, thinned}
 use Rattle.kernel_rules.proofs.Places.{IsDrawn, drawn, line-place, place_of, thin-told}
 use Rattle.kernel_rules.proofs.Merging.{at_place}
 use Rattle.kernel_rules.proofs.Told.{ToldBy, after-lines, any-map, backs-told, each-unmap, exits-told, once-down, only-down, parts-of, replaced-alike, same-place}
-use Rattle.kernel_rules.proofs.Parts.{miss-run, on-alike, return-alike, run-on, since-alike}
+use Rattle.kernel_rules.proofs.Parts.{on-alike, return-alike, run-on, since-alike}
+use Rattle.kernel_rules.proofs.Misses.{fresh-run, is_back_of, last_back, miss-after-back}
 
 -- each task has a run
 pub history-runs : (by : ExitOrder) (job : Job) (past : List Item) → IsLegalPast by job past → (t : ℕ) → IsSome (plain job t past)
@@ -54,6 +55,32 @@ of-drawn t past x item e = rw e refl
 abbrev is_body : Item → Bool
 is_body (Body c g ran) = true
 is_body _ = false
+
+pub back-drawn : (c : CallNo) (u : ℕ) (past : List Marked) (x item : Item) → IsDrawn past x item → is_back_of c u x ≡ is_back_of c u item
+back-drawn c u past x (Exit d v place) e = rw e refl
+back-drawn c u past x (Body d g ran) e = rw (e.1) refl
+back-drawn c u past x item e = rw e refl
+
+no-back-lacks : (b a o : Bool) → cond b false a ≡ true → (a ≡ true → o ≡ true) → o ≡ true
+no-back-lacks true a o e more = false_true e
+no-back-lacks false a o e more = more e
+
+-- the latest item of a task is told if it is a Back
+back-told : (t : ℕ) (c : CallNo) (u : ℕ) (lines : List Line) (past : List Marked) → AreTold lines past → last_back t c u (history past) ≡ true → last_back t c u (map item_of lines) ≡ true
+unfolding AreTold
+back-told t c u lines [] read e = false_true e
+back-told t c u lines (Lacking (Refuse d v reason) ∷ past) read e = no-back-lacks (d.task.0 == t) (last_back t c u (history past)) (last_back t c u (map item_of lines)) e (back-told t c u lines past read.1)
+back-told t c u lines (Lacking (Miss d v) ∷ past) read e = no-back-lacks (d.task.0 == t) (last_back t c u (history past)) (last_back t c u (map item_of lines)) e (back-told t c u lines past read.1)
+back-told t c u lines (Lacking item ∷ past) read e = absurd read.0
+back-told t c u [] (Told item ∷ past) read e = absurd read
+back-told t c u (line ∷ lines) (Told item ∷ past) read e =
+    let d = drawn past line item read.0 in
+    rw (of-drawn t past (item_of line) item d, back-drawn c u past (item_of line) item d) (by (is_of t item) e (back-told t c u lines past read.1))
+  where
+    by : (b : Bool) → cond b (is_back_of c u item) (last_back t c u (history past)) ≡ true → (last_back t c u (history past) ≡ true → last_back t c u (map item_of lines) ≡ true)
+        → cond b (is_back_of c u item) (last_back t c u (map item_of lines)) ≡ true
+    by true e more = e
+    by false e more = more e
 
 module _ (job : Job) where
   -- a Miss that is due in the history is due after the lines
@@ -110,9 +137,9 @@ module _ (by : ExitOrder) (job : Job) (lines : List Line) (past : List Marked) (
       of None e is some = false_true some
       of (Some m) e is some = rw (due-told job c.task.0 lines past t m e) (is, refl)
 
-  pub run-down : (item : Item) → KeepsPlainRun job hs item → profile.KeepsExits by job hs item → KeepsPlainRun job xs item
-  run-down (Miss c u) run e = miss-run job c u xs (miss-down c u e) runs
-  run-down item run e = run-on job hs xs same hruns runs item refl run
+  pub run-down : (item : Item) → KeepsPlainRun job hs item → KeepsPlainRun job xs item
+  run-down (Miss c u) run = fresh-run job c u xs (back-told c.task.0 c u.0 lines past t (miss-after-back job c u hs (run c.task.0))) runs
+  run-down item run = run-on job hs xs same hruns runs item refl run
 
   -- ## callbacks
 

@@ -25,8 +25,9 @@ use Rattle.kernel_rules.proofs.Thinned.{alike}
 use Rattle.kernel_rules.proofs.Runs.{is_miss}
 use Rattle.kernel_rules.proofs.Places.{IsDrawn, drawn, thin-told}
 use Rattle.kernel_rules.proofs.Merging.{lacks}
-use Rattle.kernel_rules.proofs.Parts.{commands-alike, miss-run, refusals-alike, run-on}
-use Rattle.kernel_rules.proofs.Removing.{after-drawn, history-runs, line-runs, of-drawn}
+use Rattle.kernel_rules.proofs.Parts.{commands-alike, refusals-alike, run-on}
+use Rattle.kernel_rules.proofs.Misses.{fresh-run, is_back_of, last_back, miss-after-back}
+use Rattle.kernel_rules.proofs.Removing.{after-drawn, back-drawn, history-runs, line-runs, of-drawn}
 use Rattle.kernel_rules.proofs.Lines.{run-line}
 use Rattle.kernel_rules.proofs.Inserting.{as-item, callbacks-up, done-up, exit-up, tells, told_as}
 use Rattle.kernel_rules.proofs.Filling.{Filled, due-run, due-task, user}
@@ -49,6 +50,8 @@ module _ (by : ExitOrder) (job : Job) (lines : List Line) (direct' : AreLegal by
     pub all : Each (λ r. list_any (λ m. m.user == r.lacked.user.0) (lacks job r.call past) ≡ true) w
     pub due : (t : ℕ) (m : Callback) → is_of t x ≡ false → miss_due job t xs ≡ Some m → miss_due job t (history past) ≡ Some m
     pub clear : is_miss x ≡ false → IfSome (call_of x) (NoMissDue job (history past))
+    pub fresh : (t : ℕ) (c : CallNo) (u : UserNo) → is_of t x ≡ false → last_back t c u.0 xs ≡ true → last_back t c u.0 (history past) ≡ true
+    pub back : is_miss x ≡ true → (t : ℕ) (c : CallNo) (u : UserNo) → last_back t c u.0 xs ≡ true → last_back t c u.0 (history past) ≡ true
     pub miss : is_miss x ≡ true → (t : ℕ) (m : Callback) → miss_due job t xs ≡ Some m → miss_due job t (history past) ≡ Some m
 
   module _ (f : Filled by job lines w) where
@@ -59,7 +62,18 @@ module _ (by : ExitOrder) (job : Job) (lines : List Line) (direct' : AreLegal by
     hruns v = history-runs by job hs f.legal v
 
     as-it-is : (x : Item) → (is_miss x ≡ false → IfSome (call_of x) (NoMissDue job hs)) → Ready x
-    as-it-is x clear = record { past = f.past; told' = f.told'; legal = f.legal; only = f.only; all = f.all; due = λ t m other e. f.due t m e; clear = clear; miss = λ is t m e. f.due t m e }
+    as-it-is x clear = record {
+      past = f.past;
+      told' = f.told';
+      legal = f.legal;
+      only = f.only;
+      all = f.all;
+      due = λ t m other e. f.due t m e;
+      fresh = λ t c u other e. f.fresh t c u e;
+      back = λ is t c u e. f.fresh t c u e;
+      clear = clear;
+      miss = λ is t m e. f.due t m e;
+    }
 
     -- the Miss that is due in the task
     module _ (x : Item) (c : CallNo) (own : (t : ℕ) → is_of t x ≡ (c.task.0 == t)) (of : call_of x ≡ Some c) (plain' : is_miss x ≡ false) (m : Callback) (e : miss_due job c.task.0 hs ≡ Some m) where
@@ -83,6 +97,9 @@ module _ (by : ExitOrder) (job : Job) (lines : List Line) (direct' : AreLegal by
       task : m.call.task.0 ≡ c.task.0
       task = eqb-true m.call.task.0 c.task.0 (due-task job c.task.0 hs m e)
 
+      apart : (t : ℕ) → is_of t x ≡ false → (m.call.task.0 == t) ≡ false
+      apart t other = ap (λ (v : ℕ). v == t) task ∙ sym (own t) ∙ other
+
       with-miss : Ready x
       unfolding IsLegalPast AreTold
       with-miss = record {
@@ -93,13 +110,16 @@ module _ (by : ExitOrder) (job : Job) (lines : List Line) (direct' : AreLegal by
         all = f.all;
         due = λ t n other d. due t n other d;
         clear = λ _. subst (λ (o : Option CallNo). IfSome o (NoMissDue job (miss ∷ hs))) (sym of) (rw (task, ==-refl c.task.0) refl);
+        fresh = λ t d v other e. fresh t d v other e;
+        back = λ is. false_true (sym plain' ∙ is);
         miss = λ is. false_true (sym plain' ∙ is);
       }
         where
           due : (t : ℕ) (n : Callback) → is_of t x ≡ false → miss_due job t xs ≡ Some n → miss_due job t (miss ∷ hs) ≡ Some n
-          due t n other d =
-              let apart : (m.call.task.0 == t) ≡ false = ap (λ (v : ℕ). v == t) task ∙ sym (own t) ∙ other in
-              rw apart (f.due t n d)
+          due t n other d = rw (apart t other) (f.due t n d)
+
+          fresh : (t : ℕ) (d : CallNo) (v : UserNo) → is_of t x ≡ false → last_back t d v.0 xs ≡ true → last_back t d v.0 (miss ∷ hs) ≡ true
+          fresh t d v other e = rw (apart t other) (f.fresh t d v e)
 
     ready-of : (x : Item) (o : Option CallNo) → call_of x ≡ o → ((t : ℕ) (c : CallNo) → o ≡ Some c → is_of t x ≡ (c.task.0 == t)) → (b : Bool) → is_miss x ≡ b → Ready x
     ready-of x None e own b is = as-it-is x (λ _. subst (λ (o : Option CallNo). IfSome o (NoMissDue job hs)) (sym e) tt)
@@ -131,16 +151,16 @@ module _ (by : ExitOrder) (job : Job) (lines : List Line) (direct' : AreLegal by
     run-of : KeepsPlainRun job xs (item_of line) → KeepsPlainRun job xs item
     run-of run t = subst (λ o. IsSome o) (run-line job xs r.past (item_of line) item t is-drawn) (run t)
 
-    callbacks-of : KeepsPlainRun job xs (item_of line) → Each (λ s. Each (IsAfter job s.call xs s.lacked) (visitor s.call (item_of line))) w → KeepsCallbacks job xs (item_of line) → KeepsCallbacks job hist item
+    pub callbacks-of : KeepsPlainRun job xs (item_of line) → Each (λ s. Each (IsAfter job s.call xs s.lacked) (visitor s.call (item_of line))) w → KeepsCallbacks job xs (item_of line) → KeepsCallbacks job hist item
     callbacks-of run after h =
         callbacks-up by job lines r.past r.told' r.legal runs w r.only item (run-of run)
         (Each-weaker _ _ w (λ s k. subst (λ (us : List ℕ). Each (IsAfter job s.call xs s.lacked) us) (visitor-drawn s.call r.past (item_of line) item is-drawn) k) after)
         (as-item (λ i. KeepsCallbacks job xs i) (λ c u e. tt) (λ c g ran. tt) r.past (item_of line) item is-drawn h)
 
-    refusals-of : KeepsRefusals job xs (item_of line) → KeepsRefusals job hist item
+    pub refusals-of : KeepsRefusals job xs (item_of line) → KeepsRefusals job hist item
     refusals-of h = refusals-alike job xs hist (thin-told lines r.past r.told') runs rruns item (as-item (λ i. KeepsRefusals job xs i) (λ c u e. tt) (λ c g ran. tt) r.past (item_of line) item is-drawn h)
 
-    commands-of : KeepsCommands job xs (item_of line) → KeepsCommands job hist item
+    pub commands-of : KeepsCommands job xs (item_of line) → KeepsCommands job hist item
     commands-of h = commands-alike job xs hist (thin-told lines r.past r.told') runs rruns item (as-item (λ i. KeepsCommands job xs i) (λ c u e. tt) (λ c g ran. tt) r.past (item_of line) item is-drawn h)
 
     -- what is due after it
@@ -153,6 +173,13 @@ module _ (by : ExitOrder) (job : Job) (lines : List Line) (direct' : AreLegal by
         of true own e = e
         of false other e = r.due t m other e
 
+    pub fresh-of : (t : ℕ) (c : CallNo) (u : UserNo) → last_back t c u.0 (item_of line ∷ xs) ≡ true → last_back t c u.0 (item ∷ hist) ≡ true
+    fresh-of t c u e = rw (sym (of-drawn t r.past (item_of line) item is-drawn), sym (back-drawn c u.0 r.past (item_of line) item is-drawn)) (of (is_of t (item_of line)) refl e)
+      where
+        of : (b : Bool) → is_of t (item_of line) ≡ b → cond b (is_back_of c u.0 (item_of line)) (last_back t c u.0 xs) ≡ true → cond b (is_back_of c u.0 (item_of line)) (last_back t c u.0 hist) ≡ true
+        of true own e = e
+        of false other e = r.fresh t c u other e
+
   miss-up : (c : CallNo) (u : UserNo) (r : Ready (Miss c u)) → MayMiss job xs c u.0 → MayMiss job (history r.past) c u.0
   miss-up c u r may = of (miss_due job c.task.0 xs) refl may.0 may.1
     where
@@ -160,9 +187,9 @@ module _ (by : ExitOrder) (job : Job) (lines : List Line) (direct' : AreLegal by
       of None e is some = false_true some
       of (Some m) e is some = rw (r.miss refl c.task.0 m e) (is, refl)
 
-  pub run-up : (line : Line) (r : Ready (item_of line)) (ran : Ran) → KeepsPlainRun job xs (item_of line) → direct.KeepsExits by job xs (item_of line) → KeepsPlainRun job (history r.past) (told_as r.past ran line)
-  run-up (Seen (Miss c u)) r ran run exits = miss-run job c u (history r.past) (miss-up c u r exits) (λ v. history-runs by job (history r.past) r.legal v)
-  run-up line r ran run exits =
+  pub run-up : (line : Line) (r : Ready (item_of line)) (ran : Ran) → KeepsPlainRun job xs (item_of line) → KeepsPlainRun job (history r.past) (told_as r.past ran line)
+  run-up (Seen (Miss c u)) r ran run = fresh-run job c u (history r.past) (r.back refl c.task.0 c u (miss-after-back job c u xs (run c.task.0))) (λ v. history-runs by job (history r.past) r.legal v)
+  run-up line r ran run =
       run-on job xs (history r.past) (thin-told lines r.past r.told') runs (λ v. history-runs by job (history r.past) r.legal v) (told_as r.past ran line) refl (run-of line r ran run)
 
   pub exits-up : (line : Line) (r : Ready (item_of line)) (ran : Ran) → direct.KeepsExits by job xs (item_of line) → profile.KeepsExits by job (history r.past) (told_as r.past ran line)
@@ -174,7 +201,7 @@ module _ (by : ExitOrder) (job : Job) (lines : List Line) (direct' : AreLegal by
   pub follow-up : (line : Line) (r : Ready (item_of line)) (ran : Ran) → direct.MayFollow by job xs line → Each (λ s. Each (IsAfter job s.call xs s.lacked) (visitor s.call (item_of line))) w
       → strict.KeepsSilence job (history r.past) (told_as r.past ran line) → strict.KeepsFetches job (history r.past) (told_as r.past ran line) → MayFollow by job (history r.past) (told_as r.past ran line)
   follow-up line r ran m after silence fetches = record {
-    run = run-up line r ran m.run m.exits;
+    run = run-up line r ran m.run;
     callbacks = callbacks-of line r ran m.run after m.callbacks';
     silence = silence;
     refusals = refusals-of line r ran m.refusals;

@@ -13,7 +13,7 @@ use Rattle.ft_hist.proofs.Shadow.{shown}
 use Rattle.ft_hist.proofs.Steps.{Step, own-step, same_call-eq, step_back, step_body, step_refuse}
 use Rattle.kernel_rules.specs.Direct.{ComesFirst, CouldRefuse, Lacked, since_of}
 use Rattle.kernel_rules.proofs.Lacks.{IsAfter, IsPair, each-pairs, visitor}
-use Rattle.kernel_rules.proofs.Parts.{same_call-refl}
+use Rattle.kernel_rules.proofs.Misses.{same_call-refl}
 use Rattle.kernel_rules.proofs.Told.{each-none, none-each}
 
 -- ## the dispatch of a call

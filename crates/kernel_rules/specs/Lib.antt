@@ -1,3 +1,4 @@
 pub mod Rules
 pub mod Recorded
 pub mod Direct
+pub mod Parts

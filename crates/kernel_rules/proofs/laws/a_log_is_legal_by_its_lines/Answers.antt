@@ -1,6 +1,7 @@
 use Rattle.std.proofs.Common.{map, reverse, sym}
 use Rattle.kernel_rules.specs.Direct.{item_of}
 use Rattle.kernel_rules.specs.Recorded.{history}
+use Rattle.kernel_rules.proofs.Keeping.{kept-down, kept-up}
 use Rattle.kernel_rules.proofs.Lines.{lines-legal}
 use Rattle.kernel_rules.proofs.Places.{thin-told}
 use Rattle.kernel_rules.proofs.Reader.{end-alike, lines-read}
@@ -19,3 +20,6 @@ returns-clause-whole c = λ by job log. (
       let r = lines-read by job (reverse log) d.0 in
       (r.0, r.1, end-alike job (map item_of (reverse log)) (history r.0) (thin-told (reverse log) r.0 r.1.told') (line-runs by job (reverse log) d.0) (history-runs by job (history r.0) r.1.legal) d.1),
 )
+
+pub returns-clause-parts : goal.returns-clause-parts
+returns-clause-parts c = λ n by job lines line d. (λ k. kept-down by job lines d line n k, λ k. kept-up by job lines d n line k)
