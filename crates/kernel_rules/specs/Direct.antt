@@ -1,6 +1,6 @@
 -- Which logs are legal, said of their lines without a history that they tell: where a log may lack items, a rule asks whether some could have been
 -- there. The lines are taken as items, each at the place of its line; a body that is marked `?` is as one by the list caller, which is asked
--- for nowhere.
+-- for nowhere. A law says that these are the logs of Recorded.
 use Rattle.std.specs.Prelude.{ℕ, ◌≡◌, ◌<◌, ◌≤◌, ◌⊎◌, ◌==◌, true, false, List, [], ◌∷◌, ◌++◌, length, map}
 use Rattle.std.specs.List.{list_any, AllByRecursion as Each}
 use Rattle.ft_base.specs.declared.number.CallNo.{CallNo}
@@ -48,7 +48,7 @@ pub record ComesFirst (job : Job) (call : CallNo) (r s : Lacked) : Type 0 where
   pub other : (s.user.0 == r.user.0) ≡ false
   pub order : since_of job call r < since_of job call s
 
--- the refusals that the log lacks in a call, the latest first
+-- the refusals that the log lacks in a call, the latest first. They are taken together: where each alone could stand, they may not be in order
 abbrev pub CouldLack : Job → List Item → CallNo → List Lacked → Type 0
 CouldLack job past call [] = Unit {0}
 CouldLack job past call (r ∷ rs) = CouldRefuse job past call r × Each (λ s. ComesFirst job call r s) rs × CouldLack job past call rs
