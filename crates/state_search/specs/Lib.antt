@@ -1,0 +1,4 @@
+pub mod Entries
+pub mod Races
+pub mod Steps
+pub mod Searches
