@@ -1,0 +1,3 @@
+mod Next
+pub mod Alike
+mod Samples
