@@ -20,7 +20,7 @@ use Rattle.ft_hist.specs.Past.{Callback, all_visits, begun, callbacks, done, get
 use Rattle.ft_hist.specs.Past as told
 use Rattle.ft_hist.specs.Known.{holds}
 use Rattle.ft_hist.specs.Plain.{plain}
-use Rattle.ft_hist.specs.Rules.{MayFollow, KeepsPlainRun}
+use Rattle.ft_hist.specs.Rules.{KeepsCommands, KeepsPlainRun}
 use Rattle.ft_hist.proofs.Laws.{plain-other, same_call-refl, own-item}
 use Rattle.ft_hist.proofs.RunLaws.{some_inj}
 use Rattle.ft_hist.proofs.Since.{misses-other}
@@ -291,9 +291,9 @@ lines-more (suc k) [] = refl
 lines-more (suc k) (PlainUntil t m ∷ ctls) = lines-more (suc k) ctls
 lines-more (suc k) (PlainRun x ∷ ctls) = lines-more k ctls
 
-pub waits-now : (job : Job) (past : List Item) (item : Item) → MayFollow job past item → Each (IsMet job past) (waits_passed (begun past) job.ctls) → Each (IsMet job past) (waits_passed (begun (item ∷ past)) job.ctls)
-waits-now job past (Begin k) may waited = may.commands.1
-waits-now job past _ may waited = waited
+pub waits-now : (job : Job) (past : List Item) (item : Item) → KeepsCommands job past item → Each (IsMet job past) (waits_passed (begun past) job.ctls) → Each (IsMet job past) (waits_passed (begun (item ∷ past)) job.ctls)
+waits-now job past (Begin k) commands waited = commands.1
+waits-now job past _ commands waited = waited
 
 -- ## room
 
@@ -309,7 +309,7 @@ module _ (job : Job) (past now : List Item) (p : Past) (k : IsPastAt job past no
 
 -- ## all
 
-module _ (job : Job) (past : List Item) (item : Item) (old new : Past) (k : IsPastAt job past (item ∷ past) old) (may : MayFollow job past item) where
+module _ (job : Job) (past : List Item) (item : Item) (old new : Past) (k : IsPastAt job past (item ∷ past) old) (run : KeepsPlainRun job past item) (commands : KeepsCommands job past item) where
   pub taken-in : new.desks ≡ old.desks → new.specs ≡ old.specs → new.frames ≡ old.frames → new.levels ≡ old.levels → AreTasksOf job (item ∷ past) (item ∷ past) new.tasks.items
       → callbacks_of new.callbacks ≡ callbacks (item ∷ past) → new.done ≡ done (item ∷ past) → new.begun ≡ begun (item ∷ past) → new.place ≡ old.place + 1
       → lines_of (length job.tasks) new.lines.now ≡ lines_after (begun (item ∷ past)) job.ctls → IsPast job (item ∷ past) new
@@ -319,10 +319,10 @@ module _ (job : Job) (past : List Item) (item : Item) (old new : Past) (k : IsPa
     frames = frames ∙ k.frames;
     levels' = levels ∙ k.levels';
     lines = lines;
-    waited = all-met job past item may.run (waits_passed (begun (item ∷ past)) job.ctls) (waits-now job past item may k.waited);
+    waited = all-met job past item run (waits_passed (begun (item ∷ past)) job.ctls) (waits-now job past item commands k.waited);
     size = tasks.0;
     each = tasks.1;
-    others = λ t over. plain-other job past item t (of-job job past item t over (k.others t over) (may.run t)) ∙ k.others t over;
+    others = λ t over. plain-other job past item t (of-job job past item t over (k.others t over) (run t)) ∙ k.others t over;
     callbacks' = back;
     done' = returned;
     begun' = begins;

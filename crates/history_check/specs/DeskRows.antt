@@ -14,6 +14,7 @@ use Rattle.history_check.specs.TakenOff.{answer_of, taken_off}
 
 -- what is kept of a user
 pub record IsSightOf (state : UserState) (s : Sight) : Type 0 where
+  pub registered : s.registered ≡ state.registered
   pub live : s.live ≡ (state.registered && state.enabled)
   pub since : s.since ≡ state.since
   pub reg : s.reg ≡ state.reg

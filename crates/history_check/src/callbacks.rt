@@ -27,7 +27,7 @@ struct Callback {
 
 /// The callbacks that are open.
 #[derive(Drop)]
-pub(crate) struct Callbacks {
+pub struct Callbacks {
     open: VecDeque<Callback>,
 }
 
@@ -83,7 +83,7 @@ impl Callbacks {
     }
 
     /// Whether one of the user is open.
-    pub(crate) fn has_user(&self, user: UserNo) -> bool
+    pub fn has_user(&self, user: UserNo) -> bool
         ensures { result ≡ list_any (λ b. b.user == user.0) (callbacks_of self.now) }
     {
         self.open.iter().any(|callback| callback.user == user)

@@ -25,6 +25,7 @@ use std::alloc::Global;
 /// A user on a desk.
 #[derive(Drop)]
 struct Sight {
+    registered: bool,
     /// It is registered and enabled.
     live: bool,
     /// The number of the command that registered it last; 0 if none has.
@@ -53,7 +54,7 @@ struct Row {
 
 /// The desks of a job: the first before any command, and one after each command.
 #[derive(Drop)]
-pub(crate) struct Desks {
+pub struct Desks {
     /// How many users there are.
     users: u32,
     rows: Vec<Row>,
@@ -73,7 +74,7 @@ impl Desks {
 
     /// Whether a user is on at a function after `k` commands; after more than there are it is as
     /// after the last. A user that there isn't is never on.
-    pub(crate) fn is_on(&self, k: u32, u: UserNo, f: FuncNo) -> bool
+    pub fn is_on(&self, k: u32, u: UserNo, f: FuncNo) -> bool
         ensures { (job : PlainJob) → AreOf job self.now → result ≡ is_on (desk job k) u.0 f.0 }
     {
         match self.sight(k, u) {
@@ -83,7 +84,7 @@ impl Desks {
     }
 
     /// The number of the command that registered a user last, after `k` commands; 0 if none has.
-    pub(crate) fn since(&self, k: u32, u: UserNo) -> u32
+    pub fn since(&self, k: u32, u: UserNo) -> u32
         ensures { (job : PlainJob) → AreOf job self.now → result ≡ (user_at (desk job k) u.0).since }
     {
         match self.sight(k, u) {
@@ -93,7 +94,7 @@ impl Desks {
     }
 
     /// How often a user was registered, after `k` commands.
-    pub(crate) fn reg(&self, k: u32, u: UserNo) -> u32
+    pub fn reg(&self, k: u32, u: UserNo) -> u32
         ensures { (job : PlainJob) → AreOf job self.now → result ≡ (user_at (desk job k) u.0).reg }
     {
         match self.sight(k, u) {
@@ -105,14 +106,14 @@ impl Desks {
     /// The number of commands after which a user's registration is read, where `done` commands have
     /// returned and `begun` have begun: those that have returned if it is on then, else those that have
     /// begun.
-    pub(crate) fn registered_at(&self, done: u32, begun: u32, u: UserNo, f: FuncNo) -> u32
+    pub fn registered_at(&self, done: u32, begun: u32, u: UserNo, f: FuncNo) -> u32
         ensures { (job : PlainJob) → AreOf job self.now → result ≡ (if is_on (desk job done) u.0 f.0 then done else begun) }
     {
         if self.is_on(done, u, f) { done } else { begun }
     }
 
     /// Whether a user is off at a function after some number of commands, from one on up to another.
-    pub(crate) fn was_off(&self, from: u32, last: u32, u: UserNo, f: FuncNo) -> bool
+    pub fn was_off(&self, from: u32, last: u32, u: UserNo, f: FuncNo) -> bool
         requires { last + 1 < 2 ^ 32 }
         ensures { (job : PlainJob) → AreOf job self.now → IsTrue result ↔ WasOff job from last u.0 f.0 }
     {
@@ -126,7 +127,7 @@ impl Desks {
 
     /// Whether a user's registration of this number is in force, and the user enabled, after `k`
     /// commands.
-    pub(crate) fn is_live(&self, k: u32, u: UserNo, reg: u32) -> bool
+    pub fn is_live(&self, k: u32, u: UserNo, reg: u32) -> bool
         ensures { (job : PlainJob) → AreOf job self.now → result ≡ is_live (desk job k) u.0 reg }
     {
         match self.sight(k, u) {
@@ -135,8 +136,18 @@ impl Desks {
         }
     }
 
+    /// Whether a user is registered under this number, enabled or not, after `k` commands.
+    pub fn is_registered(&self, k: u32, u: UserNo, reg: u32) -> bool
+        ensures { (job : PlainJob) → AreOf job self.now → result ≡ (user_at (desk job k) u.0).registered && ((user_at (desk job k) u.0).reg == reg) }
+    {
+        match self.sight(k, u) {
+            Some(sight) => sight.registered && sight.reg == reg,
+            None => false,
+        }
+    }
+
     /// Whether the pid lists allow a task of the job, after `k` commands.
-    pub(crate) fn is_allowed(&self, k: u32, task: TaskNo) -> bool
+    pub fn is_allowed(&self, k: u32, task: TaskNo) -> bool
         ensures { (job : PlainJob) → AreOf job self.now → task.0 < length job.tasks → result ≡ is_allowed (desk job k) task.0 }
     {
         if task.0 >= TASKS {
@@ -159,7 +170,7 @@ impl Desks {
     }
 
     /// What a call of a function of the job runs, after `k` commands.
-    pub(crate) fn ran(&self, k: u32, f: FuncNo) -> Ran
+    pub fn ran(&self, k: u32, f: FuncNo) -> Ran
         ensures { (job : PlainJob) → AreOf job self.now → f.0 < funcs job → result ≡ target (desk job k) f.0 }
     {
         match self.row(k) {
@@ -186,14 +197,14 @@ impl Desks {
     }
 
     /// How many users there are.
-    pub(crate) fn users(&self) -> u32
+    pub fn users(&self) -> u32
         ensures { (job : PlainJob) → AreOf job self.now → result ≡ length job.users }
     {
         self.users
     }
 
     /// The user that command `k`, from 1, unregisters or disables if it is accepted.
-    pub(crate) fn taken_off(&self, k: u32) -> Option<UserNo>
+    pub fn taken_off(&self, k: u32) -> Option<UserNo>
         ensures { (job : PlainJob) → AreOf job self.now → option_map (λ u. u.0) result ≡ taken_off job k }
     {
         match self.rows.get(k as usize) {
@@ -326,6 +337,7 @@ impl Sight {
     {
         let pair = desk.pair(u).copy()?;
         Ok(Sight {
+            registered: desk.is_registered(u),
             live: is_live(desk, u),
             since: desk.since(u),
             reg: told.reg(u),

@@ -18,13 +18,13 @@ mod frame;
 mod judging;
 mod laws;
 mod numbers;
-mod open_call;
-mod past;
-mod rules;
+pub mod open_call;
+pub mod past;
+pub mod rules;
 mod run;
 mod take_in;
 mod task_past;
-mod users;
+pub mod users;
 mod verdict;
 
 pub use backs::backs_legal;

@@ -18,12 +18,12 @@ use user_specs::Spec;
 
 /// A user that was called back or refused in a call.
 #[derive(Clone, Copy, Drop)]
-pub(crate) struct Visit {
-    pub(crate) user: UserNo,
+pub struct Visit {
+    pub user: UserNo,
     /// The number of its registration.
-    pub(crate) reg: u32,
+    pub reg: u32,
     /// The command that registered it.
-    pub(crate) since: u32,
+    pub since: u32,
     /// Where the callback or the refusal stands.
     pub(crate) place: u32,
     /// It was called back.
@@ -34,22 +34,22 @@ pub(crate) struct Visit {
 
 /// A call that is open.
 #[derive(Drop)]
-pub(crate) struct OpenCall {
-    pub(crate) call: CallNo,
+pub struct OpenCall {
+    pub call: CallNo,
     pub(crate) ctx: Ctx,
-    pub(crate) func: FuncNo,
+    pub func: FuncNo,
     /// How many commands had returned when it was entered.
-    pub(crate) from: u32,
+    pub from: u32,
     /// How many of the calls below it hold a frame of the shadow stack.
-    pub(crate) held: u32,
+    pub held: u32,
     /// Its dispatch is over.
     pub(crate) dispatched: bool,
     /// Who was visited in it, the latest first.
-    pub(crate) visits: VecDeque<Visit>,
+    pub visits: VecDeque<Visit>,
     /// The places of the entry callbacks whose exits it has had, the latest first.
-    pub(crate) exits: VecDeque<u32>,
+    pub exits: VecDeque<u32>,
     /// How many commands had returned when its body was over; 0 before that.
-    pub(crate) left: u32,
+    pub left: u32,
 }
 
 impl OpenCall {
@@ -99,14 +99,14 @@ impl OpenCall {
     }
 
     /// Whether a user was visited.
-    pub(crate) fn has_visited(&self, user: UserNo) -> bool
+    pub fn has_visited(&self, user: UserNo) -> bool
         ensures { result ≡ list_any (λ m. m.user.0 == user.0) self.now.visits.items }
     {
         self.visits.iter().any(|visit| visit.user == user)
     }
 
     /// Whether all that were visited were registered after this command.
-    pub(crate) fn is_before_all(&self, since: u32) -> bool
+    pub fn is_before_all(&self, since: u32) -> bool
         ensures { result ≡ list_all (λ m. nat_lt since m.since) self.now.visits.items }
     {
         self.visits.iter().all(|visit| since < visit.since)
@@ -120,7 +120,7 @@ impl OpenCall {
     }
 
     /// Whether this place comes after those of all exits that it has had.
-    pub(crate) fn comes_after(&self, entry: u32) -> bool
+    pub fn comes_after(&self, entry: u32) -> bool
         ensures { result ≡ list_all (λ e. nat_lt e entry) self.now.exits.items }
     {
         self.exits.iter().all(|exit| *exit < entry)

@@ -27,30 +27,30 @@ use user_specs::Spec;
 
 /// What is kept of the items so far.
 #[derive(Drop)]
-pub(crate) struct Past<'a> {
-    pub(crate) desks: Desks,
+pub struct Past<'a> {
+    pub desks: Desks,
     /// The users.
-    pub(crate) specs: &'a [Spec],
+    pub specs: &'a [Spec],
     /// How many frames the shadow stack of a task has.
-    pub(crate) frames: u32,
+    pub frames: u32,
     /// How many levels each guard has.
     pub(crate) levels: u8,
     /// Control's lines after those up to the command that began last.
     pub(crate) lines: &'a [Ctl],
     pub(crate) tasks: Vec<TaskPast<'a>>,
     /// The open callbacks of all tasks.
-    pub(crate) callbacks: Callbacks,
+    pub callbacks: Callbacks,
     /// How many commands have returned.
-    pub(crate) done: u32,
+    pub done: u32,
     /// How many have begun.
-    pub(crate) begun: u32,
+    pub begun: u32,
     /// How many items there were.
-    pub(crate) place: u32,
+    pub place: u32,
 }
 
 impl<'a> Past<'a> {
     /// Before the first item. The error says that memory ran out.
-    pub(crate) fn new(alloc: Global, job: &'a Job) -> Result<Past<'a>, NoMemory>
+    pub fn new(alloc: Global, job: &'a Job) -> Result<Past<'a>, NoMemory>
         ensures { IfOk result (λ p. IsPast job.now [] p) }
     {
         let desks = Desks::new(alloc, job)?;
@@ -116,7 +116,7 @@ impl<'a> Past<'a> {
     }
 
     /// Whether the item may come next on its task's plain run. If so, the run goes on by it.
-    fn goes_on(&mut self, item: &Item) -> Result<bool, NoMemory>
+    pub fn goes_on(&mut self, item: &Item) -> Result<bool, NoMemory>
         requires { (job : PlainJob) × (past : List Item) × IsPast job past self.old × (length past + 2 < 2 ^ 32) }
         ensures told { (job : PlainJob) (past : List Item) → IsPast job past self.old → IfOk result (λ b. IsTrue b ↔ KeepsPlainRun job past item.now) }
         ensures kept { (job : PlainJob) (past : List Item) → IsPast job past self.old → IfOk result (λ b. b ≡ true → IsPastAt job past (item.now ∷ past) self.new) }
@@ -131,7 +131,7 @@ impl<'a> Past<'a> {
     }
 
     /// Whether all commands have returned and each task is at the end of its run.
-    pub(crate) fn is_at_end(&self) -> bool
+    pub fn is_at_end(&self) -> bool
         ensures { (job : PlainJob) (past : List Item) → IsPast job past self.now → IsTrue result ↔ IsAtEnd job past }
     {
         self.done as usize == self.desks.commands() && self.have_ended()
@@ -150,7 +150,7 @@ impl<'a> Past<'a> {
     }
 
     /// The top call of the item's task.
-    pub(crate) fn top(&self, item: &Item) -> Option<&OpenCall>
+    pub fn top(&self, item: &Item) -> Option<&OpenCall>
         ensures { (job : PlainJob) (past now : List Item) → IsPastAt job past now self.now → KeepsPlainRun job past item.now
             → IsTopOf job past item.now (option_map (λ c. c.now) result) }
     {

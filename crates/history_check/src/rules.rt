@@ -2,14 +2,14 @@
 
 mod callbacks;
 mod commands;
-mod exits;
-mod fetches;
-mod refusals;
+pub mod exits;
+pub mod fetches;
+pub mod refusals;
 mod silence;
 
 pub(crate) use callbacks::keeps_callbacks;
-pub(crate) use commands::keeps_commands;
+pub use commands::keeps_commands;
 pub(crate) use exits::keeps_exits;
-pub(crate) use fetches::keeps_fetches;
-pub(crate) use refusals::keeps_refusals;
+pub use fetches::keeps_fetches;
+pub use refusals::keeps_refusals;
 pub(crate) use silence::keeps_silence;

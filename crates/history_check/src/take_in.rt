@@ -5,7 +5,7 @@ ghost use Rattle.ft_base.specs.declared.item.Item.{Item};
 ghost use Rattle.ft_base.specs.Job.{Ctl as PlainCtl, Job as PlainJob};
 ghost use Rattle.ft_desk.specs.Lines.{lines_of};
 ghost use Rattle.ft_hist.specs.Past.{all_visits, begun as begun_in, done as done_in, gets_frame, visit as visit_in};
-ghost use Rattle.ft_hist.specs.Rules.{MayFollow, KeepsPlainRun};
+ghost use Rattle.ft_hist.specs.Rules.{KeepsCommands, KeepsPlainRun};
 ghost use Rattle.history_check.specs.declared.task_past.TaskPast.{TaskPast};
 ghost use Rattle.history_check.specs.TaskCalls.{AreTasksOf, HasRoom, IsContextOf, IsDueBy, IsOfJob, IsTop, IsVisitBy, visit_of};
 ghost use Rattle.history_check.specs.JudgePast.{IsPast, IsPastAt, lines_after};
@@ -22,9 +22,9 @@ use std::alloc::Global;
 impl<'a> Past<'a> {
     /// Takes in an item that may follow, after its task's plain run has gone on by it. The error says
     /// that memory ran out.
-    pub(crate) fn take_in(&mut self, alloc: Global, item: &Item) -> Result<(), NoMemory>
+    pub fn take_in(&mut self, alloc: Global, item: &Item) -> Result<(), NoMemory>
         requires { (job : PlainJob) × (past : List Item) × IsPastAt job past (item.now ∷ past) self.old × (length past + 2 < 2 ^ 32) }
-        ensures { (job : PlainJob) (past : List Item) → IsPastAt job past (item.now ∷ past) self.old → MayFollow job past item.now
+        ensures { (job : PlainJob) (past : List Item) → IsPastAt job past (item.now ∷ past) self.old → KeepsPlainRun job past item.now → KeepsCommands job past item.now
             → OnOk result (IsPast job (item.now ∷ past) self.new) }
     {
         let ctx = self.context_of(item);

@@ -9,7 +9,7 @@ use ft_base::{FuncNo, Kind, UserNo};
 use user_specs::Spec;
 
 /// What a user traces.
-pub(crate) fn kind_of(specs: &[Spec], user: UserNo) -> Kind
+pub fn kind_of(specs: &[Spec], user: UserNo) -> Kind
     ensures { (job : PlainJob) → map spec_of specs.now ≡ job.users → result ≡ (spec_at job user.0).kind }
 {
     match specs.get(user.0 as usize) {
@@ -19,7 +19,7 @@ pub(crate) fn kind_of(specs: &[Spec], user: UserNo) -> Kind
 }
 
 /// Whether a user traces only the tasks that the pid lists allow.
-pub(crate) fn is_by_pid(specs: &[Spec], user: UserNo) -> bool
+pub fn is_by_pid(specs: &[Spec], user: UserNo) -> bool
     ensures { (job : PlainJob) → map spec_of specs.now ≡ job.users → result ≡ (spec_at job user.0).pid }
 {
     match specs.get(user.0 as usize) {

@@ -12,7 +12,7 @@ use ft_base::{Answer, Item, TaskNo};
 use ft_desk::Ctl;
 
 /// Whether the next item keeps the rules of commands.
-pub(crate) fn keeps_commands(past: &Past<'_>, item: &Item) -> bool
+pub fn keeps_commands(past: &Past<'_>, item: &Item) -> bool
     requires done { past.now.done + 1 < 2 ^ 32 }
     requires begun { past.now.begun + 1 < 2 ^ 32 }
     ensures { (job : PlainJob) (items : List Item) → IsPast job items past.now → IsTrue result ↔ KeepsCommands job items item.now }

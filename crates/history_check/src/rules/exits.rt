@@ -47,7 +47,7 @@ fn is_none_due(past: &Past<'_>, task: TaskNo) -> bool
 }
 
 /// Whether a miss is the one that is due.
-fn may_miss(past: &Past<'_>, call: CallNo, user: UserNo) -> bool
+pub fn may_miss(past: &Past<'_>, call: CallNo, user: UserNo) -> bool
     ensures { (job : PlainJob) (items : List Item) → IsPast job items past.now → call.task.0 < length job.tasks
         → IsTrue result ↔ MayMiss job items call user.0 }
 {
@@ -91,7 +91,7 @@ fn may_end(past: &Past<'_>, visit: &Visit, user: UserNo, entry: u32) -> bool
 }
 
 /// Whether a visit is of this user and at this place.
-fn is_at(visit: &Visit, user: UserNo, place: u32) -> bool
+pub fn is_at(visit: &Visit, user: UserNo, place: u32) -> bool
     ensures { IsTrue result ↔ ((visit.now.user.0 ≡ user.0) × (visit.now.place ≡ place)) }
 {
     visit.user == user && visit.place == place
@@ -99,7 +99,7 @@ fn is_at(visit: &Visit, user: UserNo, place: u32) -> bool
 
 /// Whether all entry callbacks of a call that set up an exit have had it, but for those whose registration
 /// was not live at some time since the body was over.
-fn are_exits_done(past: &Past<'_>, top: &OpenCall) -> bool
+pub fn are_exits_done(past: &Past<'_>, top: &OpenCall) -> bool
     requires { past.now.begun + 1 < 2 ^ 32 }
     ensures { (job : PlainJob) (items : List Item) → IsPast job items past.now → IsTop job items top.now.call top.now
         → IsTrue result ↔ AreExitsDone job items top.now.call }
@@ -132,7 +132,7 @@ fn is_settled(past: &Past<'_>, top: &OpenCall, visit: &Visit) -> bool
 }
 
 /// Whether a visit set up an exit: an entry callback that got a frame, of a user that doesn't cancel it.
-fn has_exit(past: &Past<'_>, visit: &Visit) -> bool
+pub fn has_exit(past: &Past<'_>, visit: &Visit) -> bool
     ensures { (job : PlainJob) (items : List Item) (call : CallNo) → IsPast job items past.now → IsTrue result ↔ HasExit job (visit_of call visit.now) }
 {
     visit.back && visit.framed && !kind_of(past.specs, visit.user).cancels()

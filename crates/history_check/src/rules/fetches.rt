@@ -16,7 +16,7 @@ use crate::users::replacement_of;
 use ft_base::{FuncNo, Item, Ran, UserNo};
 
 /// Whether the next item, of the top call of its task, keeps the rules of fetches.
-pub(crate) fn keeps_fetches(past: &Past<'_>, top: Option<&OpenCall>, item: &Item) -> bool
+pub fn keeps_fetches(past: &Past<'_>, top: Option<&OpenCall>, item: &Item) -> bool
     requires { past.now.begun + 1 < 2 ^ 32 }
     ensures { (job : PlainJob) (items : List Item) → IsPast job items past.now → IsTopOf job items item.now (option_map (λ c. c.now) top.entry)
         → IsTrue result ↔ KeepsFetches job items item.now }
@@ -60,7 +60,7 @@ fn is_same(one: Ran, other: Ran) -> bool
 }
 
 /// Whether what was fetched lets in all that were visited.
-fn lets_in(top: &OpenCall, ran: Ran) -> bool
+pub fn lets_in(top: &OpenCall, ran: Ran) -> bool
     ensures { (job : PlainJob) (items : List Item) → IsTop job items top.now.call top.now → IsTrue result ↔ OnlyThose ran (visits job top.now.call items) }
 {
     match ran {
@@ -78,7 +78,7 @@ fn has_only(top: &OpenCall, user: UserNo) -> bool
 }
 
 /// Whether at most one of the users that were called back replaces the function, and this is what runs.
-fn is_replaced_by(past: &Past<'_>, top: &OpenCall, runs: FuncNo) -> bool
+pub fn is_replaced_by(past: &Past<'_>, top: &OpenCall, runs: FuncNo) -> bool
     ensures { (job : PlainJob) (items : List Item) → IsPast job items past.now → IsTop job items top.now.call top.now
         → IsTrue result ↔ (OneReplaces (backs_with_replacement job (visits job top.now.call items))
         × (runs.0 ≡ replacement job top.now.func.0 (backs_with_replacement job (visits job top.now.call items)))) }

@@ -14,7 +14,7 @@ use crate::users::{is_by_pid, kind_of};
 use ft_base::{Item, Reason, UserNo};
 
 /// Whether the next item, of the top call of its task, keeps the rules of refusals.
-pub(crate) fn keeps_refusals(past: &Past<'_>, top: Option<&OpenCall>, item: &Item) -> bool
+pub fn keeps_refusals(past: &Past<'_>, top: Option<&OpenCall>, item: &Item) -> bool
     ensures { (job : PlainJob) (items : List Item) → IsPast job items past.now → IsTopOf job items item.now (option_map (λ c. c.now) top.entry)
         → IsTrue result ↔ KeepsRefusals job items item.now }
 {
@@ -72,7 +72,7 @@ fn was_allowed(past: &Past<'_>, top: &OpenCall, is: bool) -> bool
 }
 
 /// Whether a level of the guard of the call's task and context is free.
-fn is_free(past: &Past<'_>, top: &OpenCall) -> bool
+pub fn is_free(past: &Past<'_>, top: &OpenCall) -> bool
     ensures { (job : PlainJob) (items : List Item) → IsPast job items past.now → IsTop job items top.now.call top.now
         → IsTrue result ↔ IsFree job items top.now.call }
 {
@@ -107,7 +107,7 @@ fn is_beyond(past: &Past<'_>, top: &OpenCall) -> bool
 }
 
 /// Whether a call is beyond the graph depth after this many commands.
-fn is_level_beyond(past: &Past<'_>, k: u32, top: &OpenCall) -> bool
+pub fn is_level_beyond(past: &Past<'_>, k: u32, top: &OpenCall) -> bool
     ensures { (job : PlainJob) (items : List Item) → IsPast job items past.now
         → IsTrue result ↔ ((0 < (desk job k).depth) × ((desk job k).depth ≤ top.now.held)) }
 {

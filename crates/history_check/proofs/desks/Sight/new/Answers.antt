@@ -4,6 +4,7 @@ use Rattle.history_check.proofs.desks.Sight.new.Goals as goal
 
 pub returns : goal.returns
 returns c = record {
+  registered = c.is_registered.ensures;
   live = c.is_live.ensures;
   since = c.since.ensures;
   reg = c.reg.ensures c.args.desk.now.state c.args.desk.now.declared.tasks c.requires.told.0 c.requires.told.1;

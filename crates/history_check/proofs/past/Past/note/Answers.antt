@@ -16,5 +16,5 @@ returns-in_ok-take_in c = λ job past is.
     let first = c.first_broken-broken.ensures job past is ((goes.told job past is).0 on) in
     record {
       told' = first;
-      kept = λ e. c.in_ok-take_in.ensures job past (goes.kept job past is on) (subst (λ o. IsFirstBroken job past c.args.item.now o) e first);
+      kept = λ e. let may = subst (λ o. IsFirstBroken job past c.args.item.now o) e first in c.in_ok-take_in.ensures job past (goes.kept job past is on) may.run may.commands;
     }

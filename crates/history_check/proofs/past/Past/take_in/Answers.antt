@@ -26,15 +26,15 @@ count-requires-clause-place c =
     place-fits r.0 r.1 (c.args.item.now ∷ r.1) c.args.self.now r.2 r.3 c.follow_calls.new.self.place (ap (λ (p : Past). p.place) c.follow_calls.ensures.rest)
 
 pub returns : goal.returns
-returns c = λ job past k may.
+returns c = λ job past k run commands.
     let item = c.args.item.now in
     let old = c.args.self.now in
     let moved = c.follow_calls.ensures.rest in
     let counted = c.count.ensures.rest in
-    let tasks = c.in_ok-follow_calls.ensures.told job past k.specs k.done' (k.size, k.each) may.run (in-job job past (item ∷ past) old k item may.run)
-    (c.visit_by-visit.ensures job past k may.run) (c.due_after-due.ensures job past k may.run) in
-    let back = c.in_ok-follow.ensures past k.callbacks' (c.context_of-ctx.ensures job past k may.run) in
-    taken-in job past item old c.count.new.self k may
+    let tasks = c.in_ok-follow_calls.ensures.told job past k.specs k.done' (k.size, k.each) run (in-job job past (item ∷ past) old k item run)
+    (c.visit_by-visit.ensures job past k run) (c.due_after-due.ensures job past k run) in
+    let back = c.in_ok-follow.ensures past k.callbacks' (c.context_of-ctx.ensures job past k run) in
+    taken-in job past item old c.count.new.self k run commands
     (ap (λ (p : Past). p.desks) counted ∙ ap (λ (p : Past). p.desks) moved)
     (ap (λ (p : Past). p.specs) counted ∙ ap (λ (p : Past). p.specs) moved)
     (ap (λ (p : Past). p.frames) counted ∙ ap (λ (p : Past). p.frames) moved)
