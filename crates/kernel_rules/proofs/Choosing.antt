@@ -10,6 +10,7 @@ use Rattle.ft_base.specs.Same.{same_call}
 use Rattle.ft_base.specs.Job.{Job}
 use Rattle.ft_base.specs.Desk.{desk, is_on, target}
 use Rattle.ft_base.proofs.Small.{Each-filter, Each-weaker, each-all, false_true}
+use Rattle.ft_hist.proofs.Laws.{same_call-refl}
 use Rattle.ft_hist.specs.Past.{Visit, begun, entry_of, is_dispatched, visits}
 use Rattle.ft_hist.specs.Rules as strict
 use Rattle.ft_hist.specs.Rules.{InWindow, IsFetched, KeepsPlainRun, OnlyThose}
@@ -22,7 +23,6 @@ use Rattle.kernel_rules.proofs.Told.{each-map}
 use Rattle.kernel_rules.proofs.Removing.{line-runs}
 use Rattle.kernel_rules.proofs.Inserting.{fetched-up, silent-up}
 use Rattle.kernel_rules.proofs.Lacks.{all-could, visitor}
-use Rattle.kernel_rules.proofs.Misses.{same_call-refl}
 use Rattle.kernel_rules.proofs.Stepping.{Ready}
 use Rattle.kernel_rules.proofs.Wanted.{AreInOrder, IsOf, IsOpen, Wanted, each-split, of-append, of-each, order-filter, passes, same-sym, undispatched}
 
@@ -30,6 +30,7 @@ use Rattle.kernel_rules.proofs.Wanted.{AreInOrder, IsOf, IsOpen, Wanted, each-sp
 abbrev pub want : CallNo → Lacked → Wanted
 want c r = record { call = c; lacked = r }
 
+-- refusals that could lack in a call are in order
 lack-order : (job : Job) (c : CallNo) (past : List Item) (rs : List Lacked) → CouldLack job past c rs → AreInOrder job (map (want c) rs)
 lack-order job c past [] h = tt
 lack-order job c past (r ∷ rs) h = (each-map (want c) _ rs (Each-weaker (λ s. ComesFirst job c r s) _ rs (λ s k same. k) h.1), lack-order job c past rs h.2)
@@ -46,12 +47,15 @@ pub record IsFetch (job : Job) (xs : List Item) (c : CallNo) (g : ℕ) (ran : Ra
   pub runs : g ≡ strict.replacement job (entry_of c xs).func (strict.backs_with_replacement job (visits job c xs))
 
 module _ (by : ExitOrder) (job : Job) (lines : List Line) (direct : AreLegal by job lines) (c : CallNo) (rs : List Lacked) (p : ℕ → Bool) where
+  -- the items of the lines
   abbrev xs : List Item
   xs = map item_of lines
 
+  -- the function of the call
   abbrev func : ℕ
   func = (entry_of c xs).func
 
+  -- the user of a refusal is picked
   abbrev fits : Wanted → Bool
   fits r = p r.lacked.user.0
 
@@ -59,23 +63,29 @@ module _ (by : ExitOrder) (job : Job) (lines : List Line) (direct : AreLegal by 
   abbrev pub chosen : List Wanted
   chosen = filter fits (map (want c) rs)
 
+  -- what holds of each refusal holds of those that are chosen
   each-chosen : (P : Wanted → Type 0) → Each (λ r. P (want c r)) rs → Each P chosen
   each-chosen P h = Each-filter P fits (map (want c) rs) (each-map (want c) P rs h)
 
+  -- they could be told
   pub chosen-open : CouldLack job xs c rs → is_dispatched c xs ≡ false → Each (IsOpen job xs) chosen
   chosen-open could undone = each-chosen (IsOpen job xs) (Each-weaker (λ r. CouldRefuse job xs c r) _ rs (λ r h. (h, undone)) (all-could job c xs rs could))
 
+  -- they are in order
   pub chosen-order : CouldLack job xs c rs → AreInOrder job chosen
   chosen-order could = order-filter job fits (map (want c) rs) (lack-order job c xs rs could)
 
+  -- they are of the call
   pub chosen-of : Each (λ r. r.call ≡ c) chosen
   chosen-of = each-chosen (λ r. r.call ≡ c) (each-all _ rs (λ r. refl))
 
   -- a history that has these, and those of other calls
   module _ (w : List Wanted) (others : Each (λ r. same_call c r.call ≡ false) w) (undone : is_dispatched c xs ≡ false) (x : Item) (r : Ready by job lines direct (chosen ++ w) x) where
+    -- the refusals of the call that the history lacks
     abbrev lack : List Visit
     lack = lacks job c r.past
 
+    -- a user that is picked is among them
     there : (us : List Lacked) (u : ℕ) → p u ≡ true → list_any (λ s. s.user.0 == u) us ≡ true
         → Each (λ s. list_any (λ m. m.user == s.lacked.user.0) (lacks job s.call r.past) ≡ true) (filter fits (map (want c) us)) → list_any (λ m. m.user == u) lack ≡ true
     there [] u on is h = false_true is
@@ -90,6 +100,7 @@ module _ (by : ExitOrder) (job : Job) (lines : List Line) (direct : AreLegal by 
         of false a true b is h more = more is h.1
         of false a false b is h more = more is h
 
+    -- so the history keeps silence, if whoever is not picked was off
     pub chosen-silent : ((u : ℕ) → p u ≡ false → InWindow c xs (λ k. is_on (desk job k) u func ≡ false)) → AreSilent job xs c rs → strict.IsSilent job (history r.past) c
     chosen-silent off silent =
         silent-up by job lines r.past r.told' r.legal (λ v. line-runs by job lines direct v) (chosen ++ w) r.only c rs silent (λ u is. of u (p u) refl is)
@@ -98,6 +109,7 @@ module _ (by : ExitOrder) (job : Job) (lines : List Line) (direct : AreLegal by 
         of u true here is = inr (there rs u here is (each-split _ chosen w r.all).0)
         of u false none is = inl (off u none)
 
+    -- who is lacking is picked
     lacking : Each (λ m. p m.user ≡ true) lack
     lacking = Each-weaker (λ m. IsOf job c m (chosen ++ w)) _ lack of (r.only c undone)
       where
@@ -109,6 +121,7 @@ module _ (by : ExitOrder) (job : Job) (lines : List Line) (direct : AreLegal by 
               false_true (sym o.1 ∙ same-sym job o.0.call c o.2)
         ]
 
+    -- so the history keeps the fetch
     pub chosen-fetched : (g : ℕ) (ran : Ran) → IsFetch job xs c g ran p → IsFetched job (history r.past) c g ran
     chosen-fetched g ran f =
         fetched-up by job lines r.past r.told' r.legal (λ v. line-runs by job lines direct v) c g ran f.command f.low f.high f.is f.only (Each-weaker (λ m. p m.user ≡ true) _ lack (λ m h. f.on m.user h) lacking) f.one f.runs
@@ -116,6 +129,7 @@ module _ (by : ExitOrder) (job : Job) (lines : List Line) (direct : AreLegal by 
 -- ## a line
 
 module _ (by : ExitOrder) (job : Job) (lines : List Line) (direct : AreLegal by job lines) where
+  -- the items of the lines
   abbrev items : List Item
   items = map item_of lines
 

@@ -9,6 +9,7 @@ use Rattle.ft_base.specs.declared.item.Reason.{Reason}
 use Rattle.ft_base.specs.Same.{same_call}
 use Rattle.ft_base.specs.Job.{Job}
 use Rattle.ft_base.proofs.Small.{==-refl, Each-weaker, or-true}
+use Rattle.ft_hist.proofs.Laws.{same_call-refl}
 use Rattle.ft_hist.specs.Past.{Callback, Visit, all_visits, is_dispatched, miss_due, since_now, visit}
 use Rattle.ft_hist.specs.Plain.{plain}
 use Rattle.ft_hist.specs.Rules.{MayRefuse, NoMissDue}
@@ -21,7 +22,7 @@ use Rattle.kernel_rules.specs.Direct.{AreLegal, item_of, since_of}
 use Rattle.kernel_rules.proofs.Places.{thin-told}
 use Rattle.kernel_rules.proofs.Merging.{lacks}
 use Rattle.kernel_rules.proofs.Parts.{run-on, since-alike, why-alike}
-use Rattle.kernel_rules.proofs.Misses.{back-task, due-back, fresh-run, last_back, no-back, same_call-refl}
+use Rattle.kernel_rules.proofs.Misses.{back-task, due-back, fresh-run, last_back, no-back}
 use Rattle.kernel_rules.proofs.Removing.{history-runs, line-runs}
 use Rattle.kernel_rules.proofs.Inserting.{visit-up}
 use Rattle.kernel_rules.proofs.Lacks.{IsAfter, IsPair, eq-sym}
@@ -61,27 +62,35 @@ module _ (by : ExitOrder) (job : Job) where
 
   -- one more refusal, where these lines stand before it
   module _ (lines : List Line) (direct : AreLegal by job lines) (r : Wanted) (w : List Wanted) (before : r.lacked.before ≡ map item_of lines) (open' : IsOpen job (map item_of lines) r) (order : Each (IsLater job r) w) (f : Filled lines w) where
+    -- the items of the lines
     abbrev xs : List Item
     xs = map item_of lines
 
+    -- the items of the history
     abbrev hs : List Item
     hs = history f.past
 
+    -- each task has a run after the lines
     runs : (v : ℕ) → IsSome (plain job v xs)
     runs v = line-runs by job lines direct v
 
+    -- and after the history
     hruns : (v : ℕ) → IsSome (plain job v hs)
     hruns v = history-runs by job hs f.legal v
 
+    -- the refusal
     abbrev refusal : Item
     refusal = Refuse r.call r.lacked.user r.lacked.reason
 
+    -- it may come after the lines
     refuses : (v : ℕ) → IsSome (plain job v (refusal ∷ xs))
     refuses = subst (λ (p : List Item). (v : ℕ) → IsSome (plain job v (refusal ∷ p))) before open'.0.run
 
+    -- and after the history
     refuses-up : (v : ℕ) → IsSome (plain job v (refusal ∷ hs))
     refuses-up = run-on job xs hs (thin-told lines f.past f.told') runs hruns refusal refl refuses
 
+    -- no Miss is due where it comes
     no-miss : NoMissDue job hs r.call
     no-miss = of (miss_due job r.call.task.0 hs) refl
       where
@@ -89,12 +98,15 @@ module _ (by : ExitOrder) (job : Job) where
         of None e = e
         of (Some m) e = absurd (none-due job r.call r.lacked.user r.lacked.reason hs hruns (refuses-up r.call.task.0) m e)
 
+    -- its registration is that after the lines
     since : since_now job r.call r.lacked.user.0 xs ≡ since_of job r.call r.lacked
     since = ap (λ (p : List Item). since_now job r.call r.lacked.user.0 p) (sym before)
 
+    -- of its call the others come first
     after : (s : Wanted) → IsLater job r s → same_call s.call r.call ≡ true → IsAfter job r.call xs s.lacked r.lacked.user.0
     after s later is = let c = later is in (eq-sym s.lacked.user.0 r.lacked.user.0 c.other, (let lt = c.order in omega (arith, lt, since)))
 
+    -- it may come after the history
     may : MayFollow by job hs refusal
     may = record {
       run = refuses-up;
@@ -108,9 +120,11 @@ module _ (by : ExitOrder) (job : Job) where
       commands = tt;
     }
 
+    -- the visit that it is
     abbrev visit-here : Visit
     visit-here = visit job r.call r.lacked.user.0 hs (all_visits job hs) false
 
+    -- the history with it
     pub put : Filled lines (r ∷ w)
     unfolding IsLegalPast AreTold
     put = record {

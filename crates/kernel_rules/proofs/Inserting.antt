@@ -13,6 +13,7 @@ use Rattle.ft_base.specs.Job.{Job}
 use Rattle.ft_base.specs.Desk.{desk, is_on, is_sited, target}
 use Rattle.ft_base.proofs.Small.{Each-weaker, and_both, false_true}
 use Rattle.ft_base.proofs.Targets.{sited_nop, sited_own}
+use Rattle.ft_hist.proofs.Laws.{same_call-refl}
 use Rattle.ft_hist.specs.Past.{Callback, Visit, all_visits, done_at_leave, entry_of, exits, is_dispatched, is_of, miss_due, since_now, visit, visits}
 use Rattle.ft_hist.specs.Plain.{plain}
 use Rattle.ft_hist.specs.Rules as strict
@@ -31,7 +32,6 @@ use Rattle.kernel_rules.proofs.Places.{IsDrawn, line-place, place_of, thin-told}
 use Rattle.kernel_rules.proofs.Merging.{at_place, lacks, lacks-none}
 use Rattle.kernel_rules.proofs.Told.{after-places, any-map, both-of, each-map, each-none, exits-told, none-each, nothing, once-down, parts-of, replaced-alike, same-place}
 use Rattle.kernel_rules.proofs.Parts.{on-alike, return-alike, since-alike}
-use Rattle.kernel_rules.proofs.Misses.{same_call-refl}
 use Rattle.kernel_rules.proofs.Removing.{history-runs}
 use Rattle.kernel_rules.proofs.Lacks.{IsAfter, eq-sym, visitor}
 use Rattle.kernel_rules.proofs.Wanted.{IsOf, Wanted, of-each, undispatched}
@@ -42,6 +42,7 @@ told_as past ran (Unfetched c g) = Body c g ran
 told_as past ran (Seen (Exit c u e)) = Exit c u (place_of past e)
 told_as past ran (Seen item) = item
 
+-- the line tells it
 pub tells : (past : List Marked) (ran : Ran) (line : Line) → Tells past line (told_as past ran line)
 tells past ran (Unfetched c g) = (refl, refl)
 tells past ran (Seen (Exit c u e)) = (refl, refl, sym (line-place past e))
@@ -68,18 +69,23 @@ only-on job k f ran (m ∷ ms) e h = (one ran e, only-on job k f ran ms e h.1)
     one (Own v) e = (sited_own (desk job k) f m.user v.0 (sym e) sited, tt)
 
 module _ (by : ExitOrder) (job : Job) (lines : List Line) (past : List Marked) (t : AreTold lines past) (legal : IsLegalPast by job (history past)) (runs : (v : ℕ) → IsSome (plain job v (map item_of lines))) where
+  -- the items of the lines
   abbrev xs : List Item
   xs = map item_of lines
 
+  -- the items of the history
   abbrev hs : List Item
   hs = history past
 
+  -- they are the same but for refusals and misses
   same : thinned xs ≡ thinned hs
   same = thin-told lines past t
 
+  -- each task has a run after the history
   hruns : (v : ℕ) → IsSome (plain job v hs)
   hruns v = history-runs by job hs legal v
 
+  -- so they are alike
   abbrev a : Alike job xs hs
   a = alike job xs hs same
 
@@ -111,10 +117,12 @@ module _ (by : ExitOrder) (job : Job) (lines : List Line) (past : List Marked) (
             let e = r.3.1 in
             omega (arith, lt, e, now)
 
+    -- whom an item of a call visits comes after what the call wants
     own : (item : Item) (c : CallNo) {u : ℕ} (r : Wanted) → same_call r.call c ≡ true → Each (IsAfter job r.call xs r.lacked) (visitor r.call item) → visitor c item ≡ u ∷ [] → IsAfter job c xs r.lacked u
     own item c r is h e =
         (subst (λ (us : List ℕ). Each (IsAfter job c xs r.lacked) us) e (subst (λ (d : CallNo). Each (IsAfter job d xs r.lacked) (visitor d item)) (same_call-eq r.call c is) h)).0
 
+    -- the part of callbacks
     pub callbacks-up : (item : Item) → KeepsPlainRun job xs item → Each (λ r. Each (IsAfter job r.call xs r.lacked) (visitor r.call item)) w → KeepsCallbacks job xs item → KeepsCallbacks job hs item
     callbacks-up (Back c u) run after h = visit-up c u.0 (undispatched job c xs (Back c u) (same_call-refl c) (run c.task.0)) (Each-weaker _ _ w (λ r k is. own (Back c u) c r is k (rw (same_call-refl c) refl)) after) h
     callbacks-up (Refuse c u reason) run after h =
@@ -124,6 +132,7 @@ module _ (by : ExitOrder) (job : Job) (lines : List Line) (past : List Marked) (
 
     -- ## silence
 
+    -- a history that has those who could lack, or of them those who were on all along, keeps silence
     pub silent-up : (c : CallNo) (rs : List Lacked) → AreSilent job xs c rs
         → ((u : ℕ) → list_any (λ r. r.user.0 == u) rs ≡ true → InWindow c xs (λ k. is_on (desk job k) u (entry_of c xs).func ≡ false) ⊎ (list_any (λ m. m.user == u) (lacks job c past) ≡ true))
         → strict.IsSilent job hs c
@@ -141,6 +150,7 @@ module _ (by : ExitOrder) (job : Job) (lines : List Line) (past : List Marked) (
 
   -- ## exits
 
+  -- an exit may come
   pub exit-up : (c : CallNo) (u e : ℕ) → MayExit by job xs c u e → MayExit by job hs c u (place_of past e)
   exit-up c u e h =
       let o = h.of in
@@ -159,6 +169,7 @@ module _ (by : ExitOrder) (job : Job) (lines : List Line) (past : List Marked) (
             (Each-weaker (λ f. profile.ComesAfter by e f) (λ f. profile.ComesAfter by (place_of past e) (place_of past f)) (exits c xs) (λ f k. after-places by past e f k) h.order));
       }
 
+  -- the exits of a call are done
   pub done-up : (c : CallNo) → AreExitsDone job xs c → AreExitsDone job hs c
   done-up c h =
       both-of job c lines past t (λ m. HasExit job m → IsExitDone job c m hs)
@@ -173,6 +184,7 @@ module _ (by : ExitOrder) (job : Job) (lines : List Line) (past : List Marked) (
 
   -- ## fetches
 
+  -- a fetch lets in who is told and who lacks
   only-both : (c : CallNo) (ran : Ran) → OnlyThose ran (visits job c xs) → Each (λ m. OnlyThose ran (m ∷ [])) (lacks job c past) → OnlyThose ran (visits job c hs)
   only-both c Nop h k =
       nothing (visits job c hs)
@@ -180,6 +192,7 @@ module _ (by : ExitOrder) (job : Job) (lines : List Line) (past : List Marked) (
   only-both c ByList h k = tt
   only-both c (Own v) h k = both-of job c lines past t (λ m. m.user ≡ v.0) h (Each-weaker (λ m. OnlyThose (Own v) (m ∷ [])) (λ m. m.user ≡ v.0) (lacks job c past) (λ m h. h.0) k)
 
+  -- a body is of a fetch
   pub fetched-up : (c : CallNo) (g : ℕ) (ran : Ran) (k : ℕ) → (entry_of c xs).from ≤ k → k ≤ Rattle.ft_hist.specs.Past.begun xs → ran ≡ target (desk job k) (entry_of c xs).func
       → OnlyThose ran (visits job c xs) → Each (λ m. is_on (desk job k) m.user (entry_of c xs).func ≡ true) (lacks job c past)
       → strict.OneReplaces (strict.backs_with_replacement job (visits job c xs)) → g ≡ strict.replacement job (entry_of c xs).func (strict.backs_with_replacement job (visits job c xs))

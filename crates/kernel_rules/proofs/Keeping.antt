@@ -30,21 +30,26 @@ use Rattle.kernel_rules.proofs.Reader.{fill}
 use Rattle.kernel_rules.proofs.Wanted.{IsLater, IsOpen, Wanted, each-append, order-append}
 
 module _ (by : ExitOrder) (job : Job) (lines : List Line) (d : AreLegal by job lines) (line : Line) where
+  -- the items of the lines
   abbrev xs : List Item
   xs = map item_of lines
 
   -- ## a part of the item is one of the line
 
   module _ (k : CanKeep zero by job lines line) where
+    -- the items of the history
     abbrev hs : List Item
     hs = history k.past
 
+    -- each task has a run after the lines
     runs : (v : ℕ) → IsSome (plain job v xs)
     runs v = line-runs by job lines d v
 
+    -- and after the history
     hruns : (v : ℕ) → IsSome (plain job v hs)
     hruns v = history-runs by job hs k.reading.legal v
 
+    -- each part
     pub part-down : (i : ℕ) → Part i by job hs k.item → LinePart i by job xs line
     part-down zero h = λ v. subst (λ o. IsSome o) (sym (run-line job xs k.past (item_of line) k.item v (drawn k.past line k.item k.tells))) (run-down by job lines k.past k.reading.told' k.reading.legal runs k.item h v)
     part-down (suc zero) h =
@@ -60,10 +65,12 @@ module _ (by : ExitOrder) (job : Job) (lines : List Line) (d : AreLegal by job l
         (commands-alike job hs xs (sym (thin-told lines k.past k.reading.told')) hruns runs k.item h)
     part-down (suc (suc (suc (suc (suc (suc (suc i))))))) h = tt
 
+  -- the first parts
   pub kept-down : (n : ℕ) → CanKeep n by job lines line → KeepsFirst n by job xs line
   kept-down n k i lt = part-down (record { past = k.past; item = k.item; reading = k.reading; tells = k.tells; kept = λ j none. absurd (omega (arith, none)) }) i (k.kept i lt)
 
 module _ (by : ExitOrder) (job : Job) (lines : List Line) (d : AreLegal by job lines) where
+  -- the items of the lines
   abbrev items : List Item
   items = map item_of lines
 
@@ -73,6 +80,7 @@ module _ (by : ExitOrder) (job : Job) (lines : List Line) (d : AreLegal by job l
   abbrev Picked : ℕ → Line → Ran → Type 0
   Picked n line ran = Chosen by job lines d (item_of line) (λ past. told_as past ran line) [] (2 < n) (5 < n)
 
+  -- which refusals the line wants to lack, by how many parts it keeps
   pick : (n : ℕ) (line : Line) → KeepsFirst n by job items line → (ran : Ran) × Picked n line ran
   pick n (Unfetched c g) kept = of (nat_lt 5 n) (nat_lt 2 n) refl refl
     where
@@ -121,16 +129,20 @@ module _ (by : ExitOrder) (job : Job) (lines : List Line) (d : AreLegal by job l
   pick n (Seen item) kept = (ByList, choose-none by job lines d item (λ past. told_as past ByList (Seen item)) [] (2 < n) (5 < n) (λ _ r. tt) (λ _ r. tt))
 
   module _ (n : ℕ) (line : Line) (kept : KeepsFirst n by job items line) (ran : Ran) (ch : Picked n line ran) where
+    -- the refusals that are wanted
     abbrev wants : List Wanted
     wants = ch.new ++ []
 
+    -- a history with them
     r : Ready by job lines d wants (item_of line)
     r = ready by job lines d wants
         (fill by job lines d wants (record { each = each-append (IsOpen job items) ch.new [] ch.open' tt; order = order-append job ch.new [] ch.order tt (Each-weaker _ (λ s. Each (IsLater job s) []) ch.new (λ s h. tt) ch.open') })) (item_of line)
 
+    -- nobody whom the line visits is among them
     after : Each (λ s. Each (IsAfter job s.call items s.lacked) (visitor s.call (item_of line))) wants
     after = each-append _ ch.new [] (Each-weaker (λ s. visitor s.call (item_of line) ≡ []) _ ch.new (λ s e. subst (λ (us : List ℕ). Each (IsAfter job s.call items s.lacked) us) (sym e) tt) ch.apart) tt
 
+    -- each part
     part-up : (i : ℕ) → i < n → Part i by job (history r.past) (told_as r.past ran line)
     part-up zero lt = run-up by job lines d wants line r ran (kept 0 lt)
     part-up (suc zero) lt = callbacks-of by job lines d wants line r ran (kept 0 (omega (arith, lt))) after (kept 1 lt)
@@ -141,8 +153,10 @@ module _ (by : ExitOrder) (job : Job) (lines : List Line) (d : AreLegal by job l
     part-up (suc (suc (suc (suc (suc (suc zero)))))) lt = commands-of by job lines d wants line r ran (kept 6 lt)
     part-up (suc (suc (suc (suc (suc (suc (suc i))))))) lt = tt
 
+    -- so the line can keep them
     can-keep : CanKeep n by job lines line
     can-keep = record { past = r.past; item = told_as r.past ran line; reading = record { told' = r.told'; legal = r.legal }; tells = tells r.past ran line; kept = part-up }
 
+  -- the first parts
   pub kept-up : (n : ℕ) (line : Line) → KeepsFirst n by job items line → CanKeep n by job lines line
   kept-up n line kept = let ch = pick n line kept in can-keep n line kept ch.0 ch.1

@@ -25,10 +25,12 @@ use Rattle.kernel_rules.proofs.Told.{both-of, each-none, none-each, parts-of}
 use Rattle.kernel_rules.proofs.Parts.{entry-alike, since-alike, why-alike, window-alike}
 use Rattle.kernel_rules.proofs.Removing.{history-runs, line-runs, run-down, visit-down}
 
+-- two facts of each
 pub each-and : {X : Type 0} (P Q : X → Type 0) (xs : List X) → Each P xs → Each Q xs → Each (λ x. P x × Q x) xs
 each-and P Q [] p q = tt
 each-and P Q (x ∷ xs) p q = ((p.0, q.0), each-and P Q xs p.1 q.1)
 
+-- a test that fails fails the other way round
 pub eq-sym : (a b : ℕ) → (a == b) ≡ false → (b == a) ≡ false
 eq-sym a b h = by (b == a) refl
   where
@@ -36,6 +38,7 @@ eq-sym a b h = by (b == a) refl
     by true e = absurd (false_true (sym h ∙ ap (λ n. a == n) (eqb-true b a e) ∙ ==-refl a))
     by false e = e
 
+-- a fact of each from two
 pub each-pairs : {X : Type 0} (P Q R : X → Type 0) (xs : List X) → ((x : X) → P x → Q x → R x) → Each P xs → Each Q xs → Each R xs
 each-pairs P Q R [] f p q = tt
 each-pairs P Q R (x ∷ xs) f p q = (f x p.0 q.0, each-pairs P Q R xs f p.1 q.1)
@@ -54,6 +57,7 @@ visitor c (Back d u) = if same_call d c then u.0 ∷ [] else []
 visitor c (Refuse d u reason) = if same_call d c then u.0 ∷ [] else []
 visitor c _ = []
 
+-- a line visits whom its item visits
 pub visitor-drawn : (c : CallNo) (past : List Marked) (x item : Item) → IsDrawn past x item → visitor c x ≡ visitor c item
 visitor-drawn c past x (Exit d u place) e = rw e refl
 visitor-drawn c past x (Body d g ran) e = rw (e.1) refl
@@ -79,6 +83,7 @@ module _ (job : Job) (c : CallNo) where
   abbrev pub IsAfter : List Item → Lacked → ℕ → Type 0
   IsAfter past r u = ((u == r.user.0) ≡ false) × (since_now job c u past < since_of job c r)
 
+  -- so the refusal could still lack
   pub could-more : (x : Item) (past : List Item) (r : Lacked) → Each (IsAfter past r) (visitor c x) → CouldRefuse job past c r → CouldRefuse job (x ∷ past) c r
   could-more x past r later h = record {
     cut = (x ∷ h.cut.0, ap (λ ys. x ∷ ys) h.cut.1);
@@ -90,10 +95,12 @@ module _ (job : Job) (c : CallNo) where
     order = each-more (λ m. length r.before ≤ m.place → m.since < since_of job c r) x past (Each-weaker (IsAfter past r) _ (visitor c x) (λ u k back le. k.1) later) h.order;
   }
 
+  -- so do all
   lack-more : (x : Item) (past : List Item) (rs : List Lacked) → Each (λ r. Each (IsAfter past r) (visitor c x)) rs → CouldLack job past c rs → CouldLack job (x ∷ past) c rs
   lack-more x past [] later h = tt
   lack-more x past (r ∷ rs) later h = (could-more x past r later.0 h.0, h.1, lack-more x past rs later.1 h.2)
 
+  -- each of those that could lack could be told
   pub all-could : (past : List Item) (rs : List Lacked) → CouldLack job past c rs → Each (λ r. CouldRefuse job past c r) rs
   all-could past [] h = tt
   all-could past (r ∷ rs) h = (h.0, all-could past rs h.2)
@@ -110,17 +117,20 @@ module _ (job : Job) (c : CallNo) where
   abbrev pub IsPair : Visit → Lacked → Type 0
   IsPair m r = (m.user ≡ r.user.0) × (m.since ≡ since_of job c r)
 
+  -- of two lists
   abbrev pub ArePairs : List Visit → List Lacked → Type 0
   ArePairs [] [] = Unit {0}
   ArePairs (m ∷ ms) (r ∷ rs) = IsPair m r × ArePairs ms rs
   ArePairs _ _ = ⊥
 
+  -- a fact of the visits is one of the refusals
   pub each-pair : (P : Visit → Type 0) (Q : Lacked → Type 0) → ((m : Visit) (r : Lacked) → IsPair m r → P m → Q r) → (ms : List Visit) (rs : List Lacked) → ArePairs ms rs → Each P ms → Each Q rs
   each-pair P Q to [] [] pairs h = tt
   each-pair P Q to [] (r ∷ rs) pairs h = absurd pairs
   each-pair P Q to (m ∷ ms) [] pairs h = absurd pairs
   each-pair P Q to (m ∷ ms) (r ∷ rs) pairs h = (to m r pairs.0 h.0, each-pair P Q to ms rs pairs.1 h.1)
 
+  -- and the other way round
   pub pair-each : (P : Visit → Type 0) (Q : Lacked → Type 0) → ((m : Visit) (r : Lacked) → IsPair m r → Q r → P m) → (ms : List Visit) (rs : List Lacked) → ArePairs ms rs → Each Q rs → Each P ms
   pair-each P Q to [] [] pairs h = tt
   pair-each P Q to [] (r ∷ rs) pairs h = absurd pairs
@@ -128,6 +138,7 @@ module _ (job : Job) (c : CallNo) where
   pair-each P Q to (m ∷ ms) (r ∷ rs) pairs h = (to m r pairs.0 h.0, pair-each P Q to ms rs pairs.1 h.1)
 
   module _ (by : ExitOrder) where
+    -- what a history lacks is what its lines lack
     pub paired : (lines : List Line) (past : List Marked) → AreTold lines past → IsLegalPast by job (history past) → AreLegal by job lines → ArePairs (lacks job c past) (lacked lines past)
     unfolding AreTold IsLegalPast AreLegal
     paired lines [] t l d = tt

@@ -35,20 +35,25 @@ run-line job xs past x item t e = sym (bare-run job t x xs) ∙ ap (λ (i : Item
 
 module _ (by : ExitOrder) (job : Job) where
   module _ (lines : List Line) (past : List Marked) (t : AreTold lines past) (legal : IsLegalPast by job (history past)) (direct' : AreLegal by job lines) where
+    -- the items of the lines
     abbrev xs : List Item
     xs = map item_of lines
 
+    -- each task has a run after the lines
     runs : (v : ℕ) → IsSome (plain job v xs)
     runs v = line-runs by job lines direct' v
 
+    -- and after the history
     hruns : (v : ℕ) → IsSome (plain job v (history past))
     hruns v = history-runs by job (history past) legal v
 
+    -- the part of silence
     pub silence : (x item : Item) → IsDrawn past x item → strict.KeepsSilence job (history past) item → direct.KeepsSilence job xs x
     silence x (Body c g ran) e h = rw (e.1) (silent-down job c by lines past t legal direct' h)
     silence x (Exit c u place) e h = rw e tt
     silence x item e h = rw e tt
 
+    -- a line may come if its item may
     pub follow-down : (line : Line) (item : Item) → Tells past line item → MayFollow by job (history past) item → direct.MayFollow by job xs line
     follow-down line item tells m =
         let d = drawn past line item tells in
@@ -63,6 +68,7 @@ module _ (by : ExitOrder) (job : Job) where
           commands = as-line (λ i. KeepsCommands job xs i) (λ c u e. tt) (λ c g ran. tt) past (item_of line) item d (commands-alike job (history past) xs same hruns runs item m.commands);
         }
 
+  -- all lines may
   pub lines-legal : (lines : List Line) (past : List Marked) → AreTold lines past → IsLegalPast by job (history past) → AreLegal by job lines
   unfolding AreTold IsLegalPast AreLegal
   lines-legal lines [] t l = rw t tt

@@ -1,5 +1,5 @@
 -- The visits and the exits of a call in a history: those that the lines tell, each at its place, and the refusals that the log lacks.
-use Rattle.std.proofs.Common.{cond, ◌≡◌, ℕ, suc, ◌+◌, ◌-◌, ◌<◌, Bool, true, false, ◌&&◌, ◌||◌, nat_lt, if◌then◌else◌, List, [], ◌∷◌, length, map, refl, ap, ◌∙◌, subst, arith, lt-ltb}
+use Rattle.std.proofs.Common.{cond, ◌≡◌, ℕ, suc, ◌+◌, ◌-◌, ◌<◌, Bool, true, false, if◌then◌else◌, List, [], ◌∷◌, length, map, refl, ap, ◌∙◌, subst, arith, lt-ltb}
 use Rattle.std.proofs.lemmas.List.{length-map}
 use Rattle.std.specs.List.{AllByRecursion as Each}
 use Rattle.ft_base.specs.declared.number.CallNo.{CallNo}
@@ -7,15 +7,13 @@ use Rattle.ft_base.specs.declared.item.Item.{Item}
 use Rattle.ft_base.specs.declared.item.Item.TheVariants.{Back, Refuse, Miss, Body}
 use Rattle.ft_base.specs.Same.{same_call}
 use Rattle.ft_base.specs.Job.{Job}
-use Rattle.ft_base.specs.Desk.{spec_at}
-use Rattle.ft_base.specs.Kinds.{has_depth, has_exit}
 use Rattle.ft_base.proofs.Small.{map-ext, Each-weaker}
 use Rattle.ft_hist.specs.Past.{Visit, visit, all_visits, visits, held, user_now}
 use Rattle.history_order.proofs.Visits.{visits-before}
 use Rattle.kernel_rules.specs.declared.line.Line.{Line}
 use Rattle.kernel_rules.specs.Recorded.{AreTold, Lacking, Marked, Told, history}
 use Rattle.kernel_rules.specs.Direct.{item_of}
-use Rattle.kernel_rules.proofs.Thinned.{Alike, alike}
+use Rattle.kernel_rules.proofs.Thinned.{Alike, alike, visit_as}
 use Rattle.kernel_rules.proofs.Places.{IsDrawn, drawn, place_of, place-beyond, thin-told, told}
 
 -- ## visits of two lists, in their order
@@ -25,11 +23,13 @@ pub data Merge : List Visit → List Visit → List Visit → Type 0 where
   merged_left : {m : Visit} {xs ys zs : List Visit} → Merge xs ys zs → Merge (m ∷ xs) ys (m ∷ zs)
   merged_right : {m : Visit} {xs ys zs : List Visit} → Merge xs ys zs → Merge xs (m ∷ ys) (m ∷ zs)
 
+-- what holds of both lists holds of the merged one
 pub merge-both : (P : Visit → Type 0) {xs ys zs : List Visit} → Merge xs ys zs → Each P xs → Each P ys → Each P zs
 merge-both P merged_none p q = tt
 merge-both P (merged_left h) p q = (p.0, merge-both P h p.1 q)
 merge-both P (merged_right h) p q = (q.0, merge-both P h p q.1)
 
+-- and the other way round
 pub merge-parts : (P : Visit → Type 0) {xs ys zs : List Visit} → Merge xs ys zs → Each P zs → Each P xs × Each P ys
 merge-parts P merged_none r = (tt, tt)
 merge-parts P (merged_left h) r = let w = merge-parts P h r.1 in ((r.0, w.0), w.1)
@@ -47,6 +47,7 @@ told-length lines (Lacking item ∷ past) t = told-length lines past t.1
 told-length [] (Told item ∷ past) t = absurd t
 told-length (line ∷ lines) (Told item ∷ past) t = ap suc (told-length lines past t.1)
 
+-- and so are their items
 pub item-length : (lines : List Line) (past : List Marked) → AreTold lines past → length (map item_of lines) ≡ told past
 item-length lines past t = length-map lines item_of ∙ told-length lines past t
 
@@ -57,28 +58,21 @@ module _ (job : Job) where
   lacks c (Lacking (Refuse d u reason) ∷ past) = if same_call d c then visit job d u.0 (history past) (all_visits job (history past)) false ∷ lacks c past else lacks c past
   lacks c (_ ∷ past) = lacks c past
 
+  -- a visit reads the same of its user
   pub user-alike : (c : CallNo) (u : ℕ) (past past' : List Item) → Alike job past past' → user_now job c u past ≡ user_now job c u past'
   user-alike c u past past' a = rw (a.entered' c, a.done', a.begun') refl
 
-  abbrev visit_as : CallNo → ℕ → Bool → ℕ → ℕ → ℕ → ℕ → Visit
-  visit_as c u back reg since place level = record {
-    call = c;
-    user = u;
-    reg = reg;
-    since = since;
-    place = place;
-    back = back;
-    framed = back && (has_depth (spec_at job u).kind || (has_exit (spec_at job u).kind && nat_lt level job.frames));
-  }
-
   module _ (c : CallNo) where
     module _ (lines : List Line) (past : List Marked) (t : AreTold lines past) where
+      -- the items of the lines
       abbrev xs : List Item
       xs = map item_of lines
 
+      -- they are like the history
       abbrev same : Alike job xs (history past)
       same = alike job xs (history past) (thin-told lines past t)
 
+      -- the place of the next line is the end of the history
       next-place : place_of past (length xs) ≡ length (history past)
       next-place =
           let n : length xs ≡ told past = item-length lines past t in
@@ -86,11 +80,12 @@ module _ (job : Job) where
           let l : length (history past) ≡ length past = length-map past _ in
           omega (arith, n, h, l)
 
+      -- a visit that is told is that of its line
       pub visit-drawn : (d : CallNo) (u : ℕ) (back : Bool) → at_place past (visit job d u xs (all_visits job xs) back) ≡ visit job d u (history past) (all_visits job (history past)) back
       visit-drawn d u back =
-          ap (λ (n : ℕ). visit_as d u back (user_now job d u xs).reg (user_now job d u xs).since n (held job d xs)) next-place
-          ∙ ap (λ s. visit_as d u back s.reg s.since (length (history past)) (held job d xs)) (user-alike d u xs (history past) same)
-          ∙ ap (λ (n : ℕ). visit_as d u back (user_now job d u (history past)).reg (user_now job d u (history past)).since (length (history past)) n) (same.held' d)
+          ap (λ (n : ℕ). visit_as job d u back (user_now job d u xs).reg (user_now job d u xs).since n (held job d xs)) next-place
+          ∙ ap (λ s. visit_as job d u back s.reg s.since (length (history past)) (held job d xs)) (user-alike d u xs (history past) same)
+          ∙ ap (λ (n : ℕ). visit_as job d u back (user_now job d u (history past)).reg (user_now job d u (history past)).since (length (history past)) n) (same.held' d)
 
       -- an item that the log lacks moves no line that is there
       pub same-places : (item : Item) → map (at_place (Lacking item ∷ past)) (visits job c xs) ≡ map (at_place past) (visits job c xs)
@@ -99,14 +94,17 @@ module _ (job : Job) where
           (Each-weaker (λ m. m.place < length xs) (λ m. at_place (Lacking item ∷ past) m ≡ at_place past m) (visits job c xs)
           (λ m lt. rw (lt-ltb m.place (told past) (let n : length xs ≡ told past = item-length lines past t in omega (arith, n, lt))) refl) (visits-before job c xs))
 
+    -- one more visit that is told
     left : (b : Bool) (m m' : Visit) (ms ys zs : List Visit) (f : Visit → Visit) → f m ≡ m' → Merge (map f ms) ys zs → Merge (map f (cond b (m ∷ ms) ms)) ys (cond b (m' ∷ zs) zs)
     left true m m' ms ys zs f e h = subst (λ (x : Visit). Merge (f m ∷ map f ms) ys (x ∷ zs)) e (merged_left h)
     left false m m' ms ys zs f e h = h
 
+    -- one more that lacks
     right : (b : Bool) (m : Visit) (ms ys zs : List Visit) → Merge ms ys zs → Merge ms (cond b (m ∷ ys) ys) (cond b (m ∷ zs) zs)
     right true m ms ys zs h = merged_right h
     right false m ms ys zs h = h
 
+    -- the visits of a history are those that are told and those that lack
     abbrev IsMerged : List Line → List Marked → Type 0
     IsMerged lines past = Merge (map (at_place past) (visits job c (map item_of lines))) (lacks c past) (visits job c (history past))
 
@@ -121,6 +119,7 @@ module _ (job : Job) where
     merge-told line lines (Body d g ran) past t e h = rw (e.1) h
     merge-told line lines _ past t e h = rw e h
 
+    -- so it is in each history that the lines tell
     pub merged : (lines : List Line) (past : List Marked) → AreTold lines past → IsMerged lines past
     unfolding AreTold all_visits
     merged lines [] t = rw t merged_none
@@ -130,7 +129,6 @@ module _ (job : Job) where
     merged lines (Lacking (Miss d u) ∷ past) t = rw (same-places lines past t.1 (Miss d u)) (merged lines past t.1)
     merged lines (Lacking item ∷ past) t = absurd t.0
     merged [] (Told item ∷ past) t = absurd t
-    merged (line ∷ lines) (Told (Back d u) ∷ past) t = merge-told line lines (Back d u) past t.1 (drawn past line (Back d u) t.0) (merged lines past t.1)
     merged (line ∷ lines) (Told item ∷ past) t = merge-told line lines item past t.1 (drawn past line item t.0) (merged lines past t.1)
 
     -- what is lacking is no entry callback

@@ -14,6 +14,7 @@ use Rattle.ft_base.proofs.Small.{==-refl, false_true, and_both}
 use Rattle.ft_hist.specs.Past.{is_of, done, Callback, held, miss_after, miss_due}
 use Rattle.ft_hist.specs.Plain.{plain, PlainTask, after_item, Frame, Phase, Owed, Dispatch, InBack, Leaving, after_miss, after_refusal, on_call, in_phase, on_top, at_start, after_next}
 use Rattle.ft_hist.specs.Rules.{KeepsPlainRun}
+use Rattle.ft_hist.proofs.Laws.{same_call-refl}
 use Rattle.ft_hist.proofs.Steps.{IsQuiet, own-step, run-holds, same_call-eq, Step, step_act, step_back, step_begin, step_enter, step_miss, step_ret, step_return}
 use Rattle.kernel_rules.proofs.Runs.{settled, some-before}
 
@@ -26,9 +27,6 @@ is_back_of c u _ = false
 abbrev pub last_back : ℕ → CallNo → ℕ → List Item → Bool
 last_back t c u [] = false
 last_back t c u (item ∷ past) = cond (is_of t item) (is_back_of c u item) (last_back t c u past)
-
-pub same_call-refl : (c : CallNo) → same_call c c ≡ true
-same_call-refl c = rw (==-refl c.task.0, ==-refl c.n) refl
 
 module _ (job : Job) where
   -- a Miss that is due comes after such a Back
@@ -56,6 +54,7 @@ module _ (job : Job) where
   LeavesFresh s (Back c u) = (d : ℕ) → IsSome (after_item job d s (Miss c u))
   LeavesFresh s _ = Unit {0}
 
+  -- a Back leaves its task so
   leaves-fresh : {n : ℕ} {p s : PlainTask} {item : Item} → Step job n p s item → LeavesFresh s item
   unfolding after_item
   leaves-fresh (step_back p f below {u}) = λ d. rw (same_call-refl f.call, ==-refl u.0) refl
@@ -66,6 +65,7 @@ module _ (job : Job) where
     pub is : plain job t past ≡ Some run
     pub miss : (d : ℕ) → IsSome (after_item job d run (Miss c u))
 
+  -- a task is so after a Back that is its latest item
   fresh : (t : ℕ) (c : CallNo) (u : UserNo) (past : List Item) → last_back t c u.0 past ≡ true → IsSome (plain job t past) → IsFresh t c u past
   unfolding plain
   fresh t c u [] last some = absurd cc
@@ -107,6 +107,7 @@ module _ (job : Job) where
 
   -- ## the latest item of a task whose next may be a Miss
 
+  -- no Miss may come in this call
   abbrev IsSettled : Frame → Type 0
   IsSettled f = settled f.phase ≡ f.phase
 
@@ -115,6 +116,7 @@ module _ (job : Job) where
   IsTopBack t past [] = Unit {0}
   IsTopBack t past (f ∷ below) = ((u : ℕ) (owed : Option Owed) → f.phase ≡ InBack u owed true → last_back t f.call u past ≡ true) × Each IsSettled below
 
+  -- on a stack where none may come
   settled-top : (t : ℕ) (past : List Item) (fs : List Frame) → Each IsSettled fs → IsTopBack t past fs
   settled-top t past [] h = tt
   settled-top t past (f ∷ below) h = ((λ u owed e. not_fresh f.phase u owed e h.0), h.1)
@@ -124,10 +126,12 @@ module _ (job : Job) where
       not_fresh (InBack v o false) u owed e s = absurd cc
       not_fresh _ u owed e s = absurd cc
 
+  -- where the next act may begin none may come
   quiet-settled : (fs : List Frame) → IsQuiet fs → (t : ℕ) (past : List Item) → IsTopBack t past fs → Each IsSettled fs
   quiet-settled [] q t past h = tt
   quiet-settled (f ∷ below) q t past h = (rw (q.1) refl, h.1)
 
+  -- one more item of the task
   top-own : (t n : ℕ) (p s : PlainTask) (item : Item) (past : List Item) → is_of t item ≡ true → Step job n p s item → IsTopBack t past p.stack → IsTopBack t (item ∷ past) s.stack
   top-own t n p s item past own (step_enter it quiet acts x) h = ((λ u owed e. absurd cc), quiet-settled p.stack quiet t past h)
   top-own t n p s item past own (step_act q g below it) h = ((λ u owed e. absurd cc), (refl, h.1))
@@ -137,6 +141,7 @@ module _ (job : Job) where
   top-own t n p s item past own step_return h = false_true own
   top-own t n p s item past own _ h = ((λ u owed e. absurd cc), h.1)
 
+  -- so it is along a plain run
   top-back : (t : ℕ) (past : List Item) (s : PlainTask) → plain job t past ≡ Some s → IsTopBack t past s.stack
   top-back t = run-holds job t (λ past s. IsTopBack t past s.stack) tt
       (λ item past p s own here k h. top-own t (done past) p s item past own k h)
@@ -151,6 +156,7 @@ module _ (job : Job) where
   IsMissBack t past (Miss c u) = last_back t c u.0 past ≡ true
   IsMissBack t past _ = Unit {0}
 
+  -- a Miss that may come next comes directly after its Back
   pub miss-after-back : (c : CallNo) (u : UserNo) (past : List Item) → IsSome (plain job c.task.0 (Miss c u ∷ past)) → last_back c.task.0 c u.0 past ≡ true
   miss-after-back c u past some = of (plain job c.task.0 (Miss c u ∷ past)) refl some
     where

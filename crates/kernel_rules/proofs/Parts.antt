@@ -19,12 +19,15 @@ use Rattle.kernel_rules.proofs.Merging.{user-alike}
 use Rattle.kernel_rules.proofs.Runs.{is_miss, one-more, passed-same, run-alike, settled_run, settled_task, still-some}
 
 module _ (job : Job) (past past' : List Item) (same : thinned past ≡ thinned past') (runs : (t : ℕ) → IsSome (plain job t past)) (runs' : (t : ℕ) → IsSome (plain job t past')) where
+  -- the pasts are alike
   abbrev a : Alike job past past'
   a = alike job past past' same
 
+  -- a call is entered the same
   pub entry-alike : (c : CallNo) → entry_of c past' ≡ entry_of c past
   entry-alike c = rw (a.entered' c) refl
 
+  -- a user has the same registration
   pub since-alike : (c : CallNo) (u : ℕ) → since_now job c u past' ≡ since_now job c u past
   since-alike c u = ap (λ s. s.since) (sym (user-alike job c u past past' a))
 
@@ -33,14 +36,17 @@ module _ (job : Job) (past past' : List Item) (same : thinned past ≡ thinned p
       → AtSome job past' u (entry_of c past').from (λ k. is_on (desk job k) u (entry_of c past').func ≡ true)
   on-alike c u h = rw (entry-alike c, ← a.done', ← a.begun') h
 
+  -- a fact at a command of a window
   pub window-alike : (c : CallNo) (P : ℕ → Type 0) → InWindow c past P → InWindow c past' P
   window-alike c P h = rw (entry-alike c, ← a.begun') h
 
+  -- the reason of a refusal
   pub why-alike : (c : CallNo) (u : ℕ) (reason : Reason) → MayRefuse job past c u reason → MayRefuse job past' c u reason
   why-alike c u ByPid h = rw (← a.done', ← a.begun') h
   why-alike c u Recursion h = rw (entry-alike c, ← a.open', ← a.done', ← a.begun') h
   why-alike c u Depth h = rw (entry-alike c, ← a.open', ← a.held' c, ← a.done', ← a.begun') h
 
+  -- who is called back
   passes-alike : (c : CallNo) (u : ℕ) → PassesAll job past c u → PassesAll job past' c u
   passes-alike c u h = record {
     pid = rw (← a.done', ← a.begun') h.pid;
@@ -49,11 +55,13 @@ module _ (job : Job) (past past' : List Item) (same : thinned past ≡ thinned p
     level = rw (← a.held' c, ← a.done', ← a.begun') h.level;
   }
 
+  -- the part of refusals
   pub refusals-alike : (item : Item) → KeepsRefusals job past item → KeepsRefusals job past' item
   refusals-alike (Back c u) h = passes-alike c u.0 h
   refusals-alike (Refuse c u reason) h = why-alike c u.0 reason h
   refusals-alike _ h = tt
 
+  -- a command whose user is still
   still-alike : (o : Option Command) → IfSome o (IsStill past) → IfSome o (IsStill past')
   still-alike None h = h
   still-alike (Some c) h = by (unregisters c) h
@@ -62,9 +70,11 @@ module _ (job : Job) (past past' : List Item) (same : thinned past ≡ thinned p
       by None h = h
       by (Some v) h = rw (← a.open') h
 
+  -- a Return of such a command
   pub return-alike : (k : ℕ) → IfSome (command_at job k) (IsStill past) → IfSome (command_at job k) (IsStill past')
   return-alike k h = still-alike (command_at job k) h
 
+  -- the runs are the same but for misses
   pub same-run : (t : ℕ) → settled_run (plain job t past) ≡ settled_run (plain job t past')
   same-run t = run-alike job t past past' same (runs t) (runs' t)
 
@@ -72,6 +82,7 @@ module _ (job : Job) (past past' : List Item) (same : thinned past ≡ thinned p
   pub run-on : (item : Item) → is_miss item ≡ false → KeepsPlainRun job past item → KeepsPlainRun job past' item
   run-on item other h t = still-some job (plain job t (item ∷ past)) (plain job t (item ∷ past')) (one-more job t item past past' a.done' other (same-run t)) (h t)
 
+  -- a task has done as many acts
   passed-alike : (n : ℕ) (o o' : Option PlainTask) → settled_run o ≡ settled_run o' → IfSome o (λ s. n ≤ acts_passed s) → IfSome o' (λ s. n ≤ acts_passed s)
   passed-alike n (Some s) (Some s') e h =
       let is : settled_task s ≡ settled_task s' = cc in
@@ -80,6 +91,7 @@ module _ (job : Job) (past past' : List Item) (same : thinned past ≡ thinned p
   passed-alike n None (Some s') e h = absurd cc
   passed-alike n (Some s) None e h = absurd cc
 
+  -- the part of commands
   pub commands-alike : (item : Item) → KeepsCommands job past item → KeepsCommands job past' item
   commands-alike (Begin k) h = (
     record { number = rw (← a.begun') h.0.number; follows = rw (← a.begun', ← a.done') h.0.follows; stands = rw (← a.begun') h.0.stands },

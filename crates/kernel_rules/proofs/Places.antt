@@ -52,6 +52,7 @@ place-rises (Lacking item ∷ past) e f lt = by (nat_lt e (told past)) (nat_lt f
     by false true p q more = (let a = ltb-false e (told past) p in let b = ltb-true f (told past) q in absurd (omega (arith, a, b, lt)))
     by false false p q more = rw (p, q) (omega (arith, more))
 
+-- all that is told is before a place to come
 before-all : (past : List Marked) (place : ℕ) → length past ≤ place → told_before past place ≡ told past
 before-all [] place le = refl
 before-all (Told item ∷ past) place le = rw (lt-ltb (length past) place (omega arith)) (ap suc (before-all past place (omega arith)))
@@ -84,6 +85,7 @@ IsDrawn past x (Exit call u place) = x ≡ Exit call u (line_of past place)
 IsDrawn past x (Body call g ran) = (seen : Ran) × (x ≡ Body call g seen)
 IsDrawn past x item = x ≡ item
 
+-- so it is for each line that tells an item
 pub drawn : (past : List Marked) (line : Line) (item : Item) → Tells past line item → IsDrawn past (item_of line) item
 drawn past (Seen (Exit call u entry)) (Exit call' u' place) t = ap₂ (λ c v. Exit c v entry) t.0 t.1 ∙ ap (λ e. Exit call' u' e) t.2
 drawn past (Unfetched call g) (Body call' g' ran) t = (ByList, ap₂ (λ c f. Body c f ByList) t.0 t.1)

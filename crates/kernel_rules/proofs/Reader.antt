@@ -38,37 +38,46 @@ use Rattle.kernel_rules.proofs.Wanted.{AreInOrder, AreWanted, IsLater, IsOf, IsO
 -- ## one more line
 
 module _ (by : ExitOrder) (job : Job) (lines : List Line) (d : AreLegal by job lines) (line : Line) (w : List Wanted) where
+  -- the items of the lines
   abbrev xs : List Item
   xs = map item_of lines
 
+  -- the item of the line
   abbrev x : Item
   x = item_of line
 
   module _ (may : direct.MayFollow by job xs line) (wanted : AreWanted job (x ∷ xs) w) (fewer : Each (λ r. at r ≤ length xs) w) (ran : Ran) (ch : Chosen by job lines d x (λ past. told_as past ran line) w (Unit {0}) (Unit {0})) (filled : (v : List Wanted) → AreWanted job xs v → Filled by job lines v) where
+    -- what is wanted before the line
     abbrev more : List Wanted
     more = ch.new ++ w
 
+    -- what later lines want could be told before it
     less : Each (IsOpen job xs) w
     less = each-pairs (IsOpen job (x ∷ xs)) (λ r. at r ≤ length xs) (IsOpen job xs) w (λ r h le. (could-less job r.call x xs r.lacked le h.0, dispatched-less job r.call x xs h.1)) wanted.each fewer
 
+    -- what the line wants comes later
     across : Each (λ r. Each (IsLater job r) w) ch.new
     across = Each-weaker (λ r. is_dispatched r.call (x ∷ xs) ≡ true) _ ch.new (λ r over. Each-weaker (IsOpen job (x ∷ xs)) (IsLater job r) w (λ s h same. absurd (false_true (sym h.1 ∙ clash r s over same))) wanted.each) ch.over
       where
         clash : (r s : Wanted) → is_dispatched r.call (x ∷ xs) ≡ true → same_call s.call r.call ≡ true → is_dispatched s.call (x ∷ xs) ≡ true
         clash r s over same = subst (λ (c : CallNo). is_dispatched c (x ∷ xs) ≡ true) (sym (same_call-eq s.call r.call same)) over
 
+    -- all of it is wanted before the line
     all-wanted : AreWanted job xs more
     all-wanted = record { each = each-append (IsOpen job xs) ch.new w ch.open' less; order = order-append job ch.new w ch.order wanted.order across }
 
+    -- a history that is ready for the line
     r : Ready by job lines d more x
     r = ready by job lines d more (filled more all-wanted) x
 
+    -- whom the line visits comes after all that is wanted
     after : Each (λ s. Each (IsAfter job s.call xs s.lacked) (visitor s.call x)) more
     after =
         each-append _ ch.new w
         (Each-weaker (λ s. visitor s.call x ≡ []) _ ch.new (λ s e. subst (λ (us : List ℕ). Each (IsAfter job s.call xs s.lacked) us) (sym e) tt) ch.apart)
         (each-pairs (IsOpen job (x ∷ xs)) (λ s. at s ≤ length xs) _ w (λ s h le. after-less job s.call x xs s.lacked le h.0) wanted.each fewer)
 
+    -- the history with the line
     pub step : Filled by job (line ∷ lines) w
     unfolding AreTold IsLegalPast
     step = record {
@@ -90,6 +99,7 @@ module _ (by : ExitOrder) (job : Job) (lines : List Line) (d : AreLegal by job l
 
 module _ (by : ExitOrder) (job : Job) where
   module _ (lines : List Line) (d : AreLegal by job lines) where
+    -- the items of the lines
     abbrev items : List Item
     items = map item_of lines
 
@@ -97,6 +107,7 @@ module _ (by : ExitOrder) (job : Job) where
     others : (c : CallNo) (g : FuncNo) (ran : Ran) (w : List Wanted) → AreWanted job (Body c g ran ∷ items) w → Each (λ r. same_call c r.call ≡ false) w
     others c g ran w wanted = Each-weaker (IsOpen job (Body c g ran ∷ items)) _ w (λ r h. (or-false_both (same_call c r.call) (is_dispatched r.call items) h.1).0) wanted.each
 
+    -- what a legal line wants, and what its body ran
     choose : (line : Line) → direct.MayFollow by job items line → (w : List Wanted) → AreWanted job (item_of line ∷ items) w
         → (ran : Ran) × Chosen by job lines d (item_of line) (λ past. told_as past ran line) w (Unit {0}) (Unit {0})
     choose (Unfetched c g) may w wanted =
@@ -117,6 +128,7 @@ module _ (by : ExitOrder) (job : Job) where
 
     -- ## refusals at one place
 
+    -- a part of a list that is as long is the list
     cut-all : (since before past : List Item) → since ++ before ≡ past → length before ≡ length past → before ≡ past
     cut-all [] before past e n = e
     cut-all (y ∷ since) before past e n =
@@ -124,12 +136,14 @@ module _ (by : ExitOrder) (job : Job) where
         let m : suc (length (since ++ before)) ≡ length past = ap length e in
         absurd (omega (arith, h, m, n))
 
+    -- all refusals at the place of the next line
     put-all : (w v : List Wanted) → Each (IsOpen job items) v → Each (λ r. (at r == length items) ≡ true) v → AreInOrder job v → Each (λ r. Each (IsLater job r) w) v → Filled by job lines w → Filled by job lines (v ++ w)
     put-all w [] open' here order later f = f
     put-all w (r ∷ v) open' here order later f =
         put by job lines d r (v ++ w) (cut-all open'.0.0.cut.0 r.lacked.before items open'.0.0.cut.1 (eqb-true (at r) (length items) here.0)) open'.0 (each-append (IsLater job r) v w order.0 later.0)
         (put-all w v open'.1 here.1 order.1 later.1 f)
 
+    -- no refusal stands beyond the lines
     within : (w : List Wanted) → AreWanted job items w → Each (λ r. at r ≤ length items) w
     within w wanted = Each-weaker (IsOpen job items) _ w (λ r h. cut-length h.0.cut.0 r.lacked.before items h.0.cut.1) wanted.each
 
@@ -148,6 +162,7 @@ module _ (by : ExitOrder) (job : Job) where
           fresh = g.fresh;
         }
 
+  -- those that stand before the place
   sooner-than : (n : ℕ) (w : List Wanted) → Each (λ r. at r ≤ n) w → Each (λ r. at r < n) (sooner job n w)
   sooner-than n w le =
       each-pairs (λ r. at r ≤ n) (λ r. not (at r == n) ≡ true) _ (sooner job n w) less (Each-filter (λ r. at r ≤ n) (λ r. not (at r == n)) w le) (passes (λ r. not (at r == n)) w)
@@ -178,16 +193,19 @@ module _ (by : ExitOrder) (job : Job) where
       complete (line ∷ lines) d w wanted
       (step by job lines d.1 line v d.0 those (Each-weaker _ _ v (λ r lt. omega (arith, lt)) fewer) ch.0 ch.1 (λ u h. fill lines d.1 u h))
 
+  -- legal lines have a reading
   pub lines-read : (lines : List Line) → AreLegal by job lines → (past : List Marked) × IsReading by job lines past
   lines-read lines d = let f = fill lines d [] (record { each = tt; order = tt }) in (f.past, record { told' = f.told'; legal = f.legal })
 
 -- ## the end
 
 module _ (job : Job) where
+  -- no calls but for misses are no calls
   no-frames : (fs : List Frame) → map settled_frame fs ≡ [] → fs ≡ []
   no-frames [] e = refl
   no-frames (f ∷ fs) e = absurd cc
 
+  -- a task is at the end of its run
   ended-alike : (n : ℕ) (o o' : Option PlainTask) → settled_run o ≡ settled_run o' → IfSome o (strict.HasEnded n) → IfSome o' (strict.HasEnded n)
   ended-alike n None None e h = h
   ended-alike n None (Some s') e h = absurd cc

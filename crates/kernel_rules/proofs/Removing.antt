@@ -36,6 +36,7 @@ unfolding IsLegalPast plain
 history-runs by job [] l t = refl
 history-runs by job (item ∷ past) l t = l.0.run t
 
+-- and after legal lines
 pub line-runs : (by : ExitOrder) (job : Job) (lines : List Line) → AreLegal by job lines → (t : ℕ) → IsSome (plain job t (map item_of lines))
 unfolding AreLegal plain
 line-runs by job [] l t = refl
@@ -47,20 +48,24 @@ bare-drawn past x (Exit c u place) e = rw e refl
 bare-drawn past x (Body c g ran) e = rw (e.1) refl
 bare-drawn past x item e = rw e refl
 
+-- it is of the same task
 pub of-drawn : (t : ℕ) (past : List Marked) (x item : Item) → IsDrawn past x item → is_of t x ≡ is_of t item
 of-drawn t past x (Exit c u place) e = rw e refl
 of-drawn t past x (Body c g ran) e = rw (e.1) refl
 of-drawn t past x item e = rw e refl
 
+-- the item is a Body
 abbrev is_body : Item → Bool
 is_body (Body c g ran) = true
 is_body _ = false
 
+-- it is the same Back
 pub back-drawn : (c : CallNo) (u : ℕ) (past : List Marked) (x item : Item) → IsDrawn past x item → is_back_of c u x ≡ is_back_of c u item
 back-drawn c u past x (Exit d v place) e = rw e refl
 back-drawn c u past x (Body d g ran) e = rw (e.1) refl
 back-drawn c u past x item e = rw e refl
 
+-- an item that lacks is no Back
 no-back-lacks : (b a o : Bool) → cond b false a ≡ true → (a ≡ true → o ≡ true) → o ≡ true
 no-back-lacks true a o e more = false_true e
 no-back-lacks false a o e more = more e
@@ -90,10 +95,12 @@ module _ (job : Job) where
   after-drawn x (Body c g ran) marked past past' a e = rw (e.1) refl
   after-drawn x item marked past past' a e = rw e refl
 
+  -- where an item lacks
   due-lacking : (b : Bool) (o o' : Option Callback) (m : Callback) → cond b None o ≡ Some m → (o ≡ Some m → o' ≡ Some m) → o' ≡ Some m
   due-lacking true o o' m e more = absurd cc
   due-lacking false o o' m e more = more e
 
+  -- a Miss that is due in the history is due after the lines
   pub due-told : (t : ℕ) (lines : List Line) (past : List Marked) → AreTold lines past → (m : Callback) → miss_due job t (history past) ≡ Some m → miss_due job t (map item_of lines) ≡ Some m
   unfolding AreTold
   due-told t lines [] read m e = absurd cc
@@ -113,23 +120,29 @@ module _ (job : Job) where
       by false e more = more e
 
 module _ (by : ExitOrder) (job : Job) (lines : List Line) (past : List Marked) (t : AreTold lines past) (legal : IsLegalPast by job (history past)) (runs : (v : ℕ) → IsSome (plain job v (map item_of lines))) where
+  -- the items of the lines
   abbrev xs : List Item
   xs = map item_of lines
 
+  -- the items of the history
   abbrev hs : List Item
   hs = history past
 
+  -- they are the same but for refusals and misses
   same : thinned hs ≡ thinned xs
   same = sym (thin-told lines past t)
 
+  -- each task has a run after the history
   hruns : (v : ℕ) → IsSome (plain job v hs)
   hruns v = history-runs by job hs legal v
 
+  -- so they are alike
   abbrev a : Alike job hs xs
   a = alike job hs xs same
 
   -- ## the plain run
 
+  -- a Miss that is due
   miss-down : (c : CallNo) (u : UserNo) → MayMiss job hs c u.0 → MayMiss job xs c u.0
   miss-down c u may = of (miss_due job c.task.0 hs) refl may.0 may.1
     where
@@ -137,12 +150,14 @@ module _ (by : ExitOrder) (job : Job) (lines : List Line) (past : List Marked) (
       of None e is some = false_true some
       of (Some m) e is some = rw (due-told job c.task.0 lines past t m e) (is, refl)
 
+  -- the part of the plain run
   pub run-down : (item : Item) → KeepsPlainRun job hs item → KeepsPlainRun job xs item
   run-down (Miss c u) run = fresh-run job c u xs (back-told c.task.0 c u.0 lines past t (miss-after-back job c u hs (run c.task.0))) runs
   run-down item run = run-on job hs xs same hruns runs item refl run
 
   -- ## callbacks
 
+  -- a visit
   pub visit-down : (c : CallNo) (u : ℕ) → MayVisit job hs c u → MayVisit job xs c u
   visit-down c u h = record {
     on = on-alike job hs xs same hruns runs c u h.on;
@@ -150,6 +165,7 @@ module _ (by : ExitOrder) (job : Job) (lines : List Line) (past : List Marked) (
     order = subst (λ (n : ℕ). Each (λ m. n < m.since) (visits job c xs)) (sym (since-alike job hs xs same hruns runs c u)) (parts-of job c lines past t (λ m. since_now job c u hs < m.since) h.order).0;
   }
 
+  -- the part of callbacks
   pub callbacks-down : (item : Item) → KeepsCallbacks job hs item → KeepsCallbacks job xs item
   callbacks-down (Back c u) h = visit-down c u.0 h
   callbacks-down (Refuse c u reason) h = visit-down c u.0 h
@@ -158,6 +174,7 @@ module _ (by : ExitOrder) (job : Job) (lines : List Line) (past : List Marked) (
 
   -- ## exits
 
+  -- an exit
   pub exit-down : (c : CallNo) (u place : ℕ) → MayExit by job hs c u place → MayExit by job xs c u (line_of past place)
   exit-down c u place h =
       let o = h.of in
@@ -181,6 +198,7 @@ module _ (by : ExitOrder) (job : Job) (lines : List Line) (past : List Marked) (
             (each-unmap (place_of past) (λ e. profile.ComesAfter by place e) (exits c xs) (subst (λ (ps : List ℕ). Each (λ e. profile.ComesAfter by place e) ps) es.same h.order)));
       }
 
+  -- the exits of a call are done
   pub done-down : (c : CallNo) → AreExitsDone job hs c → AreExitsDone job xs c
   done-down c h =
       Each-weaker (λ m. HasExit job (at_place past m) → IsExitDone job c (at_place past m) hs) (λ m. HasExit job m → IsExitDone job c m xs) (visits job c xs) (λ m k has. one m (k has))
@@ -192,6 +210,7 @@ module _ (by : ExitOrder) (job : Job) (lines : List Line) (past : List Marked) (
           ∙ subst (λ (ps : List ℕ). list_any (λ e. e == place_of past m.place) ps ≡ true) (exits-told job c by lines past t legal).same had)
       one m (inr dead) = inr (rw (← a.left c, ← a.begun') dead)
 
+  -- the part of exits
   pub exits-down : (line : Line) (item : Item) → Tells past line item → profile.KeepsExits by job hs item → direct.KeepsExits by job xs (item_of line)
   exits-down line item tells h = of item (drawn past line item tells) h
     where
@@ -204,13 +223,16 @@ module _ (by : ExitOrder) (job : Job) (lines : List Line) (past : List Marked) (
 
   -- ## fetches
 
+  -- at most one user replaces the function
   one-down : (c : CallNo) → strict.OneReplaces (strict.backs_with_replacement job (visits job c hs)) → strict.OneReplaces (strict.backs_with_replacement job (visits job c xs))
   one-down c h = let n = (replaced-alike job c hs xs same).0 in omega (arith, n, h)
 
+  -- the same function runs
   runs-down : (c : CallNo) (g : ℕ) → g ≡ strict.replacement job (entry_of c hs).func (strict.backs_with_replacement job (visits job c hs))
       → g ≡ strict.replacement job (entry_of c xs).func (strict.backs_with_replacement job (visits job c xs))
   runs-down c g h = h ∙ sym ((replaced-alike job c hs xs same).1 (entry_of c hs).func) ∙ rw (a.entered' c) refl
 
+  -- a body is of the same fetch
   fetched : (c : CallNo) (g : ℕ) (ran : Ran) → IsFetched job hs c g ran → IsFetched job xs c g ran
   fetched c g ran h = record {
     fetched = rw (← a.entered' c, ← a.begun') h.fetched;
@@ -219,6 +241,7 @@ module _ (by : ExitOrder) (job : Job) (lines : List Line) (past : List Marked) (
     runs = runs-down c g h.runs;
   }
 
+  -- a line that tells a body
   fetches-body : (line : Line) (c : CallNo) (g : FuncNo) (ran : Ran) → Tells past line (Body c g ran) → IsFetched job hs c g.0 ran → direct.LineFetches job xs line
   fetches-body (Unfetched d f) c g ran tells h =
       let k = h.fetched in
@@ -237,6 +260,7 @@ module _ (by : ExitOrder) (job : Job) (lines : List Line) (past : List Marked) (
   fetches-other (Seen (Body c g ran)) item tells other = absurd (let k : true ≡ is_body item = ap is_body tells in cc)
   fetches-other (Seen _) item tells other = tt
 
+  -- the part of fetches
   pub fetches-down : (line : Line) (item : Item) → Tells past line item → strict.KeepsFetches job hs item → direct.LineFetches job xs line
   fetches-down line (Body c g ran) tells h = fetches-body line c g ran tells h
   fetches-down line item tells h = fetches-other line item tells refl

@@ -25,12 +25,15 @@ abbrev pub settled : Phase → Phase
 settled (InBack u owed fresh) = InBack u owed false
 settled phase = phase
 
+-- the call in it
 abbrev pub settled_frame : Frame → Frame
 settled_frame f = record f { phase = settled f.phase }
 
+-- the task in it
 abbrev pub settled_task : PlainTask → PlainTask
 settled_task s = record s { stack = map settled_frame s.stack }
 
+-- the run, if it came this far
 abbrev pub settled_run : Option PlainTask → Option PlainTask
 settled_run None = None
 settled_run (Some s) = Some (settled_task s)
@@ -40,6 +43,7 @@ abbrev pub is_miss : Item → Bool
 is_miss (Miss call u) = true
 is_miss _ = false
 
+-- twice is once
 phase-again : (p : Phase) → settled (settled p) ≡ settled p
 phase-again (InBack u owed fresh) = refl
 phase-again Dispatch = refl
@@ -47,10 +51,12 @@ phase-again Running = refl
 phase-again Leaving = refl
 phase-again (InExit u) = refl
 
+-- so it is of a stack
 frames-again : (fs : List Frame) → map settled_frame (map settled_frame fs) ≡ map settled_frame fs
 frames-again [] = refl
 frames-again (f ∷ fs) = ap₂ (λ (p : Phase) (rest : List Frame). record f { phase = p } ∷ rest) (phase-again f.phase) (frames-again fs)
 
+-- the top call stays
 top-same : (fs : List Frame) → top_call (map settled_frame fs) ≡ top_call fs
 top-same [] = refl
 top-same (f ∷ fs) = refl
@@ -66,11 +72,13 @@ module _ (s : PlainTask) where
   abbrev Same : Option PlainTask → Option PlainTask → Type 0
   Same o o' = settled_run o ≡ settled_run o'
 
+  -- under a test
   either : (b : Bool) (o o' : Option PlainTask) → Same o o' → Same (cond b o None) (cond b o' None)
   either true o o' h = h
   either false o o' h = refl
 
   module _ (f : Frame) (below : List Frame) where
+    -- the calls below
     abbrev low : List Frame
     low = map settled_frame below
 
@@ -78,31 +86,38 @@ module _ (s : PlainTask) where
     abbrev on : Phase → List Frame → PlainTask
     on ph fs = with (in_phase f ph ∷ fs)
 
+    -- a call goes to another phase
     to : (ph : Phase) → Same (Some (on ph low)) (Some (on ph below))
     to ph = ap (λ (fs : List Frame). Some (on (settled ph) fs)) (frames-again below)
 
+    -- by a Back
     of-back : (job : Job) (u : ℕ) (ph : Phase) → Same (after_back job (on (settled ph) low) (in_phase f (settled ph)) low u (settled ph)) (after_back job (on ph below) (in_phase f ph) below u ph)
     of-back job u Dispatch = to (InBack u (owed_by f.ctx (spec_at job u).act) true)
     of-back job u _ = refl
 
+    -- by the end of an entry callback
     of-back-end : (u : ℕ) (ph : Phase) → Same (after_back_end (on (settled ph) low) (in_phase f (settled ph)) low u (settled ph)) (after_back_end (on ph below) (in_phase f ph) below u ph)
     of-back-end u (InBack v None fresh) = either (u == v) _ _ (to Dispatch)
     of-back-end u _ = refl
 
+    -- by a refusal
     of-refusal : (ph : Phase) → Same (after_refusal (on (settled ph) low) (settled ph)) (after_refusal (on ph below) ph)
     of-refusal Dispatch = to Dispatch
     of-refusal _ = refl
 
+    -- by a Body
     of-body : (ph : Phase) → Same (after_body (on (settled ph) low) (in_phase f (settled ph)) low (settled ph)) (after_body (on ph below) (in_phase f ph) below ph)
     of-body Dispatch = to Running
     of-body _ = refl
 
+    -- by a scripted return
     of-script-leave : (ph : Phase) (acts : List TaskAct) (cs : List Ctx) (gone : ℕ)
         → Same (after_scripted_leave (on (settled ph) low) (in_phase f (settled ph)) low acts cs gone) (after_scripted_leave (on ph below) (in_phase f ph) below acts cs gone)
     of-script-leave ph (RetAct ∷ rest) cs gone =
         ap (λ (fs : List Frame). Some (record { next = s.next; acts = rest; gone = suc gone; contexts = cs; stack = in_phase f Leaving ∷ fs })) (frames-again below)
     of-script-leave ph _ cs gone = refl
 
+    -- by a Leave
     of-leave : (d : ℕ) (ph : Phase) → Same (after_leave d (on (settled ph) low) (in_phase f (settled ph)) low (settled ph)) (after_leave d (on ph below) (in_phase f ph) below ph)
     of-leave d Running = by f.scripted
       where
@@ -112,28 +127,34 @@ module _ (s : PlainTask) where
         by false = to Leaving
     of-leave d _ = refl
 
+    -- by an Exit
     of-exit : (u : ℕ) (ph : Phase) → Same (after_exit (on (settled ph) low) (in_phase f (settled ph)) low u (settled ph)) (after_exit (on ph below) (in_phase f ph) below u ph)
     of-exit u Leaving = to (InExit u)
     of-exit u _ = refl
 
+    -- by the end of an exit callback
     of-exit-end : (u : ℕ) (ph : Phase) → Same (after_exit_end (on (settled ph) low) (in_phase f (settled ph)) low u (settled ph)) (after_exit_end (on ph below) (in_phase f ph) below u ph)
     of-exit-end u (InExit v) = either (u == v) _ _ (to Leaving)
     of-exit-end u _ = refl
 
+    -- by a Ret
     of-ret : (c : Option CallNo) (ph : Phase) → Same (after_ret (on (settled ph) low) low c (settled ph)) (after_ret (on ph below) below c ph)
     of-ret c Leaving = rw (top-same below) (either (same_top c (top_call below)) _ _ (ap (λ (fs : List Frame). Some (with fs)) (frames-again below)))
     of-ret c _ = refl
 
   module _ (call : CallNo) (x : Ctx) (g : ℕ) where
+    -- the call that is entered
     abbrev new : Bool → Frame
     new scripted = record { call = call; ctx = x; func = g; scripted = scripted; phase = Dispatch }
 
+    -- by the script
     of-script : (fs : List Frame) (acts : List TaskAct) (cs : List Ctx) (gone : ℕ) → Same (after_scripted_enter (with (map settled_frame fs)) acts cs gone call x g) (after_scripted_enter (with fs) acts cs gone call x g)
     of-script fs (Call h ∷ rest) cs gone =
         either ((h.0 == g) && same_ctx x (context cs)) _ _
         (ap (λ (below : List Frame). Some (record { next = suc s.next; acts = rest; gone = suc gone; contexts = cs; stack = new true ∷ below })) (frames-again fs))
     of-script fs _ cs gone = refl
 
+    -- by a user's act
     of-owed : (f : Frame) (below : List Frame) (ph : Phase) (u : ℕ) (owed : Option Owed)
         → Same (after_owed_enter (with (in_phase f (settled ph) ∷ map settled_frame below)) (in_phase f (settled ph)) (map settled_frame below) u owed call x g)
         (after_owed_enter (with (in_phase f ph ∷ below)) (in_phase f ph) below u owed call x g)
@@ -142,6 +163,7 @@ module _ (s : PlainTask) where
         either ((o.func == g) && same_ctx o.ctx x) _ _
         (ap (λ (fs : List Frame). Some (record s { next = suc s.next; stack = new false ∷ in_phase f (InBack u None false) ∷ fs })) (frames-again below))
 
+    -- by an Enter
     of-enter : (d : ℕ) (fs : List Frame) → Same (after_enter d (with (map settled_frame fs)) (map settled_frame fs) call x g) (after_enter d (with fs) fs call x g)
     of-enter d [] = refl
     of-enter d (f ∷ below) = by f.phase
@@ -152,6 +174,7 @@ module _ (s : PlainTask) where
         by (InBack u owed fresh) = of-owed f below (InBack u owed fresh) u owed
         by _ = refl
 
+  -- by each item but a Miss
   pub item-over : (job : Job) (d : ℕ) (fs : List Frame) (item : Item) → is_miss item ≡ false → Same (after_item job d (with (map settled_frame fs)) item) (after_item job d (with fs) item)
   unfolding after_item
   item-over job d fs (Enter call x f caller) other = rw (top-same fs) (either ((call.n == s.next) && same_top caller (top_call fs)) _ _ (of-enter call x f.0 d fs))
@@ -175,6 +198,7 @@ module _ (job : Job) where
   abbrev pub SameRun : ℕ → List Item → List Item → Type 0
   SameRun t past past' = settled_run (plain job t past) ≡ settled_run (plain job t past')
 
+  -- a run that is the same came as far
   pub still-some : (o o' : Option PlainTask) → settled_run o ≡ settled_run o' → IsSome o → IsSome o'
   still-some o None same h = absurd (none o same h)
     where
@@ -183,6 +207,7 @@ module _ (job : Job) where
       none (Some s) e k = absurd cc
   still-some o (Some s) same h = refl
 
+  -- so does a run
   next-same : (d : ℕ) (item : Item) (o : Option PlainTask) → is_miss item ≡ false → settled_run (after_next job d item (settled_run o)) ≡ settled_run (after_next job d item o)
   next-same d item None other = refl
   next-same d item (Some s) other = item-over s job d s.stack item other
@@ -200,6 +225,7 @@ module _ (job : Job) where
           ∙ next-same (done past') item (plain job t past') other
       by false = same
 
+  -- a run that came this far came as far before
   pub some-before : (t : ℕ) (item : Item) (past : List Item) → IsSome (plain job t (item ∷ past)) → IsSome (plain job t past)
   unfolding plain
   some-before t item past = by (is_of t item) (plain job t past)
@@ -223,6 +249,7 @@ module _ (job : Job) where
       on [] h = false_true h
       on (f ∷ below) h = at (same_call f.call call) f.phase h
 
+  -- and so does a Miss
   miss-stays : (d : ℕ) (s : PlainTask) (call : CallNo) (u : UserNo) → IsSome (after_item job d s (Miss call u)) → settled_run (Some s) ≡ settled_run (after_item job d s (Miss call u))
   unfolding after_item
   miss-stays d s call u = over s.stack
@@ -247,6 +274,7 @@ module _ (job : Job) where
       over [] h = false_true h
       over (f ∷ below) h = at (same_call f.call call) f below f.phase h
 
+  -- the run stays where an item leaves it
   stays : (t : ℕ) (item : Item) (past : List Item) → ((d : ℕ) (s : PlainTask) → IsSome (after_item job d s item) → settled_run (Some s) ≡ settled_run (after_item job d s item))
       → IsSome (plain job t (item ∷ past)) → SameRun t past (item ∷ past)
   unfolding plain
@@ -257,6 +285,7 @@ module _ (job : Job) where
       by true (Some s) h = keeps (done past) s h
       by false o h = refl
 
+  -- it reads neither the places of exits nor what bodies ran
   pub bare-run : (t : ℕ) (item : Item) (past : List Item) → plain job t (bare item ∷ past) ≡ plain job t (item ∷ past)
   unfolding plain after_item
   bare-run t (Body call g ran) past = by (call.task.0 == t) (plain job t past)
@@ -273,9 +302,11 @@ module _ (job : Job) where
       by false o = refl
   bare-run t _ past = refl
 
+  -- an item that stays
   kept : (t : ℕ) (item : Item) (past : List Item) → is_miss item ≡ false → SameRun t (thinned past) past → SameRun t (bare item ∷ thinned past) (item ∷ past)
   kept t item past other same = ap settled_run (bare-run t item (thinned past)) ∙ one-more t item (thinned past) past (done-thin past) other same
 
+  -- a run is the same without refusals, and but for misses
   pub run-thin : (t : ℕ) (past : List Item) → IsSome (plain job t past) → SameRun t (thinned past) past
   run-thin t [] h = refl
   run-thin t (Refuse call u reason ∷ past) h =

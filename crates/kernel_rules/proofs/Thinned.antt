@@ -27,45 +27,54 @@ thinned (item ∷ past) = bare item ∷ thinned past
 
 -- ## what stays
 
+-- the commands that have returned
 pub done-thin : (past : List Item) → done (thinned past) ≡ done past
 done-thin [] = refl
 done-thin (Return k a ∷ past) = rw (done-thin past) refl
 done-thin (_ ∷ past) = done-thin past
 
+-- those that have begun
 pub begun-thin : (past : List Item) → begun (thinned past) ≡ begun past
 begun-thin [] = refl
 begun-thin (Begin k ∷ past) = rw (begun-thin past) refl
 begun-thin (_ ∷ past) = begun-thin past
 
+-- the calls that were entered
 calls-thin : (past : List Item) → calls (thinned past) ≡ calls past
 calls-thin [] = refl
 calls-thin (Enter c x f caller ∷ past) = rw (calls-thin past) refl
 calls-thin (_ ∷ past) = calls-thin past
 
+-- the Enter of a call
 pub entered-thin : (call : CallNo) (past : List Item) → entered call (thinned past) ≡ entered call past
 entered-thin call [] = refl
 entered-thin call (Enter c x f caller ∷ past) = rw (done-thin past, entered-thin call past) refl
 entered-thin call (_ ∷ past) = entered-thin call past
 
+-- whether it is open
 open-thin : (call : CallNo) (past : List Item) → is_open call (thinned past) ≡ is_open call past
 open-thin call [] = refl
 open-thin call (Enter c x f caller ∷ past) = rw (open-thin call past) refl
 open-thin call (Ret c to ∷ past) = rw (open-thin call past) refl
 open-thin call (_ ∷ past) = open-thin call past
 
+-- whether its dispatch is over
 dispatched-thin : (call : CallNo) (past : List Item) → is_dispatched call (thinned past) ≡ is_dispatched call past
 dispatched-thin call [] = refl
 dispatched-thin call (Body c g ran ∷ past) = rw (dispatched-thin call past) refl
 dispatched-thin call (_ ∷ past) = dispatched-thin call past
 
+-- how many commands had returned at its Leave
 pub left-thin : (call : CallNo) (past : List Item) → done_at_leave call (thinned past) ≡ done_at_leave call past
 left-thin call [] = refl
 left-thin call (Leave c ∷ past) = rw (done-thin past, left-thin call past) refl
 left-thin call (_ ∷ past) = left-thin call past
 
+-- its context
 ctx-thin : (call : CallNo) (past : List Item) → ctx_of call (thinned past) ≡ ctx_of call past
 ctx-thin call past = rw (entered-thin call past) refl
 
+-- the callbacks that are open
 pub callbacks-thin : (past : List Item) → callbacks (thinned past) ≡ callbacks past
 callbacks-thin [] = refl
 callbacks-thin (Back c u ∷ past) = rw (ctx-thin c past, callbacks-thin past) refl
@@ -80,13 +89,16 @@ callbacks-thin (_ ∷ past) = callbacks-thin past
 abbrev pub unplaced : Visit → Visit
 unplaced m = record m { place = 0 }
 
+-- the list of them
 abbrev pub backs : List Visit → List Visit
 backs ms = map unplaced (filter (λ m. m.back) ms)
 
 module _ (job : Job) where
+  -- what a visit reads of its user
   user-thin : (c : CallNo) (u : ℕ) (past : List Item) → user_now job c u (thinned past) ≡ user_now job c u past
   user-thin c u past = rw (entered-thin c past, done-thin past, begun-thin past) refl
 
+  -- only entry callbacks get frames
   frames-of-backs : (c : CallNo) (q : ℕ → Bool) (past : List Item) → has_frame_user c (λ m. q m.user) (all_visits job past) ≡ has_frame_user c (λ m. q m.user) (backs (all_visits job past))
   unfolding all_visits
   frames-of-backs c q [] = refl
@@ -94,9 +106,11 @@ module _ (job : Job) where
   frames-of-backs c q (Refuse d u reason ∷ past) = rw (and-false (same_call d c)) (frames-of-backs c q past)
   frames-of-backs c q (_ ∷ past) = frames-of-backs c q past
 
+  -- the entry callbacks are the same
   abbrev SameBacks : List Item → Type 0
   SameBacks past = backs (all_visits job (thinned past)) ≡ backs (all_visits job past)
 
+  -- so the same calls hold frames
   holds-thin : (past : List Item) → SameBacks past → (c : CallNo) → holds_frame job c (thinned past) (all_visits job (thinned past)) ≡ holds_frame job c past (all_visits job past)
   holds-thin past same c =
       rw (open-thin c past, dispatched-thin c past, frames (λ u. not (cancels (spec_at job u).kind)), frames (λ u. true)) refl
@@ -104,34 +118,38 @@ module _ (job : Job) where
       frames : (q : ℕ → Bool) → has_frame_user c (λ m. q m.user) (all_visits job (thinned past)) ≡ has_frame_user c (λ m. q m.user) (all_visits job past)
       frames q = frames-of-backs c q (thinned past) ∙ ap (λ (ms : List Visit). has_frame_user c (λ m. q m.user) ms) same ∙ sym (frames-of-backs c q past)
 
+  -- and as many
   held-by-backs : (past : List Item) → SameBacks past → (c : CallNo) → held job c (thinned past) ≡ held job c past
   held-by-backs past same c =
       ap (λ (cs : List CallNo). length (filter (λ d. (d.task.0 == c.task.0) && not (same_call d c) && holds_frame job d (thinned past) (all_visits job (thinned past))) cs)) (calls-thin past)
       ∙ ap (λ (cs : List CallNo). length cs)
       (filter-ext _ _ (calls past) (each-all _ (calls past) (λ d. ap (λ b. (d.task.0 == c.task.0) && not (same_call d c) && b) (holds-thin past same d))))
 
-  abbrev called_as : CallNo → ℕ → Bool → ℕ → ℕ → ℕ → Visit
-  called_as c u back reg since level = record {
+  -- a visit by what it reads
+  abbrev pub visit_as : CallNo → ℕ → Bool → ℕ → ℕ → ℕ → ℕ → Visit
+  visit_as c u back reg since place level = record {
     call = c;
     user = u;
     reg = reg;
     since = since;
-    place = 0;
+    place = place;
     back = back;
     framed = back && (has_depth (spec_at job u).kind || (has_exit (spec_at job u).kind && nat_lt level job.frames));
   }
 
+  -- so they are in each past
   backs-thin : (past : List Item) → SameBacks past
   unfolding all_visits
   backs-thin [] = refl
   backs-thin (Back d u ∷ past) =
       let same = backs-thin past in
       ap₂ (λ (m : Visit) (ms : List Visit). m ∷ ms)
-      (ap₂ (λ (r s : ℕ). called_as d u.0 true r s (held job d (thinned past))) (ap (λ s. s.reg) (user-thin d u.0 past)) (ap (λ s. s.since) (user-thin d u.0 past))
-      ∙ ap (λ (n : ℕ). called_as d u.0 true (user_now job d u.0 past).reg (user_now job d u.0 past).since n) (held-by-backs past same d))
+      (ap₂ (λ (r s : ℕ). visit_as d u.0 true r s 0 (held job d (thinned past))) (ap (λ s. s.reg) (user-thin d u.0 past)) (ap (λ s. s.since) (user-thin d u.0 past))
+      ∙ ap (λ (n : ℕ). visit_as d u.0 true (user_now job d u.0 past).reg (user_now job d u.0 past).since 0 n) (held-by-backs past same d))
       same
   backs-thin (_ ∷ past) = backs-thin past
 
+  -- and so are the frames that are held
   held-thin : (c : CallNo) (past : List Item) → held job c (thinned past) ≡ held job c past
   held-thin c past = held-by-backs past (backs-thin past) c
 
@@ -146,6 +164,7 @@ module _ (job : Job) where
     pub backs' : backs (all_visits job past) ≡ backs (all_visits job past')
     pub bodies : (c : CallNo) → is_dispatched c past ≡ is_dispatched c past'
 
+  -- so it is if nothing else stands in them
   pub alike : (past past' : List Item) → thinned past ≡ thinned past' → Alike past past'
   alike past past' e = record {
     done' = sym (done-thin past) ∙ ap done e ∙ done-thin past';

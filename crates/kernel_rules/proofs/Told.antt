@@ -27,14 +27,17 @@ use Rattle.kernel_rules.proofs.Merging.{at_place, item-length, lacks, lacks-none
 
 -- ## lists
 
+-- a fact of each image
 pub each-map : {X Y : Type 0} (f : X → Y) (Q : Y → Type 0) (xs : List X) → Each (λ x. Q (f x)) xs → Each Q (map f xs)
 each-map f Q [] h = tt
 each-map f Q (x ∷ xs) h = (h.0, each-map f Q xs h.1)
 
+-- and the other way round
 pub each-unmap : {X Y : Type 0} (f : X → Y) (Q : Y → Type 0) (xs : List X) → Each Q (map f xs) → Each (λ x. Q (f x)) xs
 each-unmap f Q [] h = tt
 each-unmap f Q (x ∷ xs) h = (h.0, each-unmap f Q xs h.1)
 
+-- a list contains each of its elements
 pub each-contained : {X : Type 0} (xs : List X) → Each (λ x. Contains xs x) xs
 each-contained [] = tt
 each-contained (x ∷ xs) = (Contains-head x xs, Each-weaker (λ y. Contains xs y) (λ y. Contains (x ∷ xs) y) xs (λ y h. Contains-more x y xs h) (each-contained xs))
@@ -44,14 +47,17 @@ pub none-each : {X : Type 0} (p : X → Bool) (xs : List X) → list_any p xs �
 none-each p [] h = tt
 none-each p (x ∷ xs) h = let both = or-false_both (p x) (list_any p xs) h in (both.0, none-each p xs both.1)
 
+-- and the other way round
 pub each-none : {X : Type 0} (p : X → Bool) (xs : List X) → Each (λ x. p x ≡ false) xs → list_any p xs ≡ false
 each-none p [] h = refl
 each-none p (x ∷ xs) h = rw h.0 (each-none p xs h.1)
 
+-- whether one of the images passes
 pub any-map : {X Y : Type 0} (f : X → Y) (p : Y → Bool) (q : X → Bool) → ((x : X) → p (f x) ≡ q x) → (xs : List X) → list_any p (map f xs) ≡ list_any q xs
 any-map f p q same [] = refl
 any-map f p q same (x ∷ xs) = ap₂ (λ a b. a || b) (same x) (any-map f p q same xs)
 
+-- a list of which nothing is an element
 pub nothing : {X : Type 0} (xs : List X) → Each (λ x. ⊥) xs → xs ≡ []
 nothing [] h = refl
 nothing (x ∷ xs) h = absurd h.0
@@ -72,6 +78,7 @@ lines-rise past e f lt = by (nat_lt e f) (nat_lt f e) refl refl
         let places : place_of past e ≡ place_of past f = ap (place_of past) same in
         absurd (omega (arith, places, lt))
 
+-- two lines have the same place if they are the same
 pub same-place : (past : List Marked) (e f : ℕ) → (place_of past e == place_of past f) ≡ (e == f)
 same-place past e f = same_test _ _ to from
   where
@@ -84,24 +91,29 @@ same-place past e f = same_test _ _ to from
     from : (e == f) ≡ true → (place_of past e == place_of past f) ≡ true
     from h = let same : e ≡ f = eqb-true e f h in rw same (==-refl (place_of past f))
 
+-- exits whose places are in order have lines in order
 pub after-lines : (by : ExitOrder) (past : List Marked) (e f : ℕ) → ComesAfter by (place_of past e) (place_of past f) → ComesAfter by e f
 after-lines AsEntered past e f h = lines-rise past f e h
 after-lines Reversed past e f h = lines-rise past e f h
 
+-- and the other way round
 pub after-places : (by : ExitOrder) (past : List Marked) (e f : ℕ) → ComesAfter by e f → ComesAfter by (place_of past e) (place_of past f)
 after-places AsEntered past e f h = place-rises past f e h
 after-places Reversed past e f h = place-rises past e f h
 
 module _ (job : Job) (c : CallNo) where
   module _ (lines : List Line) (past : List Marked) (t : AreTold lines past) where
+    -- the items of the lines
     abbrev xs : List Item
     xs = map item_of lines
 
     -- ## visits
 
+    -- a fact of each visit is one of those that are told, at their places, and of those that lack
     pub parts-of : (P : Visit → Type 0) → Each P (visits job c (history past)) → Each (λ m. P (at_place past m)) (visits job c xs) × Each P (lacks job c past)
     parts-of P h = let w = merge-parts P (merged job c lines past t) h in (each-unmap (at_place past) P (visits job c xs) w.0, w.1)
 
+    -- and the other way round
     pub both-of : (P : Visit → Type 0) → Each (λ m. P (at_place past m)) (visits job c xs) → Each P (lacks job c past) → Each P (visits job c (history past))
     both-of P h k = merge-both P (merged job c lines past t) (each-map (at_place past) P (visits job c xs) h) k
 
@@ -115,6 +127,7 @@ module _ (job : Job) (c : CallNo) where
       pub there : Contains (visits job c xs) by
       pub same : at_place past by ≡ m
 
+    -- so is each
     pub backs-told : Each (λ m. m.back ≡ true → ToldBy m) (visits job c (history past))
     backs-told =
         both-of (λ m. m.back ≡ true → ToldBy m)
@@ -144,6 +157,7 @@ module _ (job : Job) (c : CallNo) where
     pub same : exits c (history past) ≡ map (place_of past) (exits c (map item_of lines))
     pub there : Each (λ e. e < told past) (exits c (map item_of lines))
 
+  -- an item that lacks
   lacking : (item : Item) (lines : List Line) (past : List Marked) → exits c (item ∷ history past) ≡ exits c (history past) → AreExits lines past → AreExits lines (Lacking item ∷ past)
   lacking item lines past none h = record {
     same = none ∙ h.same
@@ -157,9 +171,11 @@ module _ (job : Job) (c : CallNo) where
   Heads line lines item past =
       (exits c (item ∷ history past) ≡ map (place_of past) (exits c (item_of line ∷ map item_of lines))) × Each (λ e. e < suc (told past)) (exits c (item_of line ∷ map item_of lines))
 
+  -- lines that are there are so after one more
   more : (n : ℕ) (es : List ℕ) → Each (λ e. e < n) es → Each (λ e. e < suc n) es
   more n es h = Each-weaker (λ e. e < n) (λ e. e < suc n) es (λ e lt. omega (arith, lt)) h
 
+  -- it is so after an item that is told
   heads : (by : ExitOrder) (line : Line) (lines : List Line) (item : Item) (past : List Marked) → AreTold lines past → IsLegalPast by job (item ∷ history past) → IsDrawn past (item_of line) item → AreExits lines past → Heads line lines item past
   unfolding IsLegalPast
   heads by line lines (Exit d u place) past t l e h = rw e (of (same_call d c))
@@ -177,6 +193,7 @@ module _ (job : Job) (c : CallNo) where
   heads by line lines (Body d g ran) past t l e h = rw (e.1) (h.same, more (told past) (exits c (map item_of lines)) h.there)
   heads by line lines _ past t l e h = rw e (h.same, more (told past) (exits c (map item_of lines)) h.there)
 
+  -- so it is in each legal history that the lines tell
   pub exits-told : (by : ExitOrder) (lines : List Line) (past : List Marked) → AreTold lines past → IsLegalPast by job (history past) → AreExits lines past
   unfolding AreTold IsLegalPast
   exits-told by lines [] t l = rw t (record { same = refl; there = tt })
@@ -191,6 +208,7 @@ module _ (job : Job) (c : CallNo) where
 -- ## replacements
 
 module _ (job : Job) where
+  -- an entry callback of a user that replaces functions
   abbrev replaces : Visit → Bool
   replaces m = m.back && is_some (spec_at job m.user).ipmodify
 
@@ -208,11 +226,13 @@ module _ (job : Job) where
       by false e true r f g h = rw (e, f) h
       by false e false r f g h = rw (e, f) h
 
+  -- the place of a callback is nothing to its replacement
   replacement-unplaced : (f : ℕ) (ms : List Visit) → replacement job f (map unplaced ms) ≡ replacement job f ms
   replacement-unplaced f [] = refl
   replacement-unplaced f (m ∷ ms) = refl
 
   module _ (c : CallNo) (past past' : List Item) (same : thinned past ≡ thinned past') where
+    -- the same callbacks replace functions
     same-backs : map unplaced (backs_with_replacement job (visits job c past)) ≡ map unplaced (backs_with_replacement job (visits job c past'))
     same-backs =
         of-backs c (all_visits job past)

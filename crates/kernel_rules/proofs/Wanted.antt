@@ -7,13 +7,13 @@ use Rattle.ft_base.specs.declared.item.Item.TheVariants.{Back, Refuse, Body}
 use Rattle.ft_base.specs.Same.{same_call}
 use Rattle.ft_base.specs.Job.{Job}
 use Rattle.ft_base.proofs.Small.{==-refl, Each-filter, and_both, false_true, or-false_both}
+use Rattle.ft_hist.proofs.Laws.{same_call-refl}
 use Rattle.ft_hist.specs.Past.{Visit, all_visits, is_dispatched, is_of, since_now, visit, visits}
 use Rattle.ft_hist.specs.Plain.{PlainTask, plain}
 use Rattle.ft_hist.proofs.Shadow.{shown}
 use Rattle.ft_hist.proofs.Steps.{Step, own-step, same_call-eq, step_back, step_body, step_refuse}
 use Rattle.kernel_rules.specs.Direct.{ComesFirst, CouldRefuse, Lacked, since_of}
 use Rattle.kernel_rules.proofs.Lacks.{IsAfter, IsPair, each-pairs, visitor}
-use Rattle.kernel_rules.proofs.Misses.{same_call-refl}
 use Rattle.kernel_rules.proofs.Told.{each-none, none-each}
 
 -- ## the dispatch of a call
@@ -25,6 +25,7 @@ in_dispatch c (Refuse d u reason) = same_call d c
 in_dispatch c (Body d g ran) = same_call d c
 in_dispatch c _ = false
 
+-- it is of the task of the call
 of-dispatch : (c : CallNo) (item : Item) → in_dispatch c item ≡ true → is_of c.task.0 item ≡ true
 of-dispatch c (Back d u) is = (and_both (d.task.0 == c.task.0) (d.n == c.n) is).0
 of-dispatch c (Refuse d u reason) is = (and_both (d.task.0 == c.task.0) (d.n == c.n) is).0
@@ -40,6 +41,7 @@ module _ (job : Job) where
     by-step (step_body p f below) is here = subst (λ (d : CallNo). is_dispatched d past ≡ false) (same_call-eq f.call c is) ((shown job c.task.0 past _ here).0.0 refl)
     by-step _ is here = false_true is
 
+    -- for each item
     pub undispatched : (item : Item) → in_dispatch c item ≡ true → IsSome (plain job c.task.0 (item ∷ past)) → is_dispatched c past ≡ false
     undispatched item is some = of (plain job c.task.0 (item ∷ past)) refl some
       where
@@ -47,16 +49,19 @@ module _ (job : Job) where
         of None e h = false_true h
         of (Some s) e h = let w = own-step job c.task.0 item past s (of-dispatch c item is) e in by-step w.2 is w.1
 
+  -- a dispatch that isn't over was not over before
   pub dispatched-less : (c : CallNo) (item : Item) (past : List Item) → is_dispatched c (item ∷ past) ≡ false → is_dispatched c past ≡ false
   dispatched-less c (Body d g ran) past h = (or-false_both (same_call d c) (is_dispatched c past) h).1
   dispatched-less c _ past h = h
 
   -- ## fewer lines
 
+  -- a list without its head
   tail-of : (P : Visit → Type 0) (b : Bool) (m : Visit) (ms : List Visit) → Each P (cond b (m ∷ ms) ms) → Each P ms
   tail-of P true m ms h = h.1
   tail-of P false m ms h = h
 
+  -- what holds of each visit held of each before
   pub each-less : (c : CallNo) (P : Visit → Type 0) (x : Item) (past : List Item) → Each P (visits job c (x ∷ past)) → Each P (visits job c past)
   unfolding all_visits
   each-less c P (Back d u) past h = tail-of P (same_call d c) _ (visits job c past) h
@@ -78,10 +83,12 @@ module _ (job : Job) where
       of false is h = tt
   each-head c P _ past h = tt
 
+  -- a part of a list is one of its tail
   cut-less : (since before past : List Item) (x : Item) → since ++ before ≡ x ∷ past → length before ≤ length past → (s : List Item) × (s ++ before ≡ past)
   cut-less [] before past x e le = let n : length before ≡ suc (length past) = ap length e in absurd (omega (arith, n, le))
   cut-less (y ∷ since) before past x e le = (since, (let h : since ++ before ≡ past = cc in h))
 
+  -- a refusal that could be told could be told before
   pub could-less : (c : CallNo) (x : Item) (past : List Item) (r : Lacked) → length r.before ≤ length past → CouldRefuse job (x ∷ past) c r → CouldRefuse job past c r
   could-less c x past r le h = record {
     cut = cut-less h.cut.0 r.before past x h.cut.1 le;
@@ -105,6 +112,7 @@ module _ (job : Job) where
 
 -- ## wanted refusals
 
+-- each that is picked passes
 pub passes : {X : Type 0} (p : X → Bool) (xs : List X) → Each (λ x. p x ≡ true) (filter p xs)
 passes p [] = tt
 passes p (x ∷ xs) = of (p x) refl (passes p xs)
@@ -113,10 +121,12 @@ passes p (x ∷ xs) = of (p x) refl (passes p xs)
     of true is more = (is, more)
     of false is more = more
 
+-- a fact of each of two lists
 pub each-split : {X : Type 0} (P : X → Type 0) (xs ys : List X) → Each P (xs ++ ys) → Each P xs × Each P ys
 each-split P [] ys h = (tt, h)
 each-split P (x ∷ xs) ys h = let both = each-split P xs ys h.1 in ((h.0, both.0), both.1)
 
+-- and the other way round
 pub each-append : {X : Type 0} (P : X → Type 0) (xs ys : List X) → Each P xs → Each P ys → Each P (xs ++ ys)
 each-append P [] ys p q = q
 each-append P (x ∷ xs) ys p q = (p.0, each-append P xs ys p.1 q)
@@ -126,6 +136,7 @@ pub record Wanted : Type 0 where
   pub call : CallNo
   pub lacked : Lacked
 
+-- its place: so many lines stand before it
 abbrev pub at : Wanted → ℕ
 at r = length r.lacked.before
 
@@ -134,6 +145,7 @@ module _ (job : Job) where
   abbrev pub IsLater : Wanted → Wanted → Type 0
   IsLater r s = same_call s.call r.call ≡ true → ComesFirst job r.call r.lacked s.lacked
 
+  -- so it is for each
   abbrev pub AreInOrder : List Wanted → Type 0
   AreInOrder [] = Unit {0}
   AreInOrder (r ∷ w) = Each (IsLater r) w × AreInOrder w
@@ -146,6 +158,7 @@ module _ (job : Job) where
     pub each : Each (IsOpen past) w
     pub order : AreInOrder w
 
+  -- some of them are in order too
   pub order-filter : (p : Wanted → Bool) (w : List Wanted) → AreInOrder w → AreInOrder (filter p w)
   order-filter p [] h = tt
   order-filter p (r ∷ w) h = of (p r) (order-filter p w h.1)
@@ -154,6 +167,7 @@ module _ (job : Job) where
       of true more = (Each-filter (IsLater r) p w h.0, more)
       of false more = more
 
+  -- and so are two lists of which the first comes later
   pub order-append : (v w : List Wanted) → AreInOrder v → AreInOrder w → Each (λ r. Each (IsLater r) w) v → AreInOrder (v ++ w)
   order-append [] w g h across = h
   order-append (r ∷ v) w g h across = (each-append (IsLater r) v w g.0 across.0, order-append v w g.1 h across.1)
@@ -162,9 +176,11 @@ module _ (job : Job) where
   abbrev pub now : ℕ → List Wanted → List Wanted
   now n w = filter (λ r. at r == n) w
 
+  -- and those before it
   abbrev pub sooner : ℕ → List Wanted → List Wanted
   sooner n w = filter (λ r. not (at r == n)) w
 
+  -- two calls are the same either way
   pub same-sym : (a b : CallNo) → same_call a b ≡ true → same_call b a ≡ true
   same-sym a b is = subst (λ (c : CallNo). same_call b c ≡ true) (sym (same_call-eq a b is)) (same_call-refl b)
 
@@ -195,11 +211,13 @@ module _ (job : Job) where
   IsOf c m [] = ⊥
   IsOf c m (r ∷ w) = ((same_call r.call c ≡ true) × IsPair job c m r.lacked) ⊎ IsOf c m w
 
+  -- what holds of each of them holds of that one
   pub of-each : (c : CallNo) (m : Visit) (Q : Wanted → Type 0) (w : List Wanted) → Each Q w → IsOf c m w → (r : Wanted) × Q r × (same_call r.call c ≡ true) × IsPair job c m r.lacked
   of-each c m Q [] h is = absurd is
   of-each c m Q (r ∷ w) h (inl is) = (r, h.0, is.0, is.1)
   of-each c m Q (r ∷ w) h (inr is) = of-each c m Q w h.1 is
 
+  -- of one of two lists
   pub of-append : (c : CallNo) (m : Visit) (v w : List Wanted) → IsOf c m (v ++ w) → IsOf c m v ⊎ IsOf c m w
   of-append c m [] w is = inr is
   of-append c m (r ∷ v) w (inl is) = inl (inl is)
@@ -218,6 +236,7 @@ module _ (job : Job) where
       of-filter p [] h = h
       of-filter p (r ∷ xs) h = of-cond (p r) r (filter p xs) xs (of-filter p xs) h
 
+  -- a fact of each
   pub each-parts : (P : Wanted → Type 0) (n : ℕ) (w : List Wanted) → Each P (now n w ++ sooner n w) → Each P w
   each-parts P n w h = let both = each-split P (now n w) (sooner n w) h in all w both.0 both.1
     where
