@@ -8,7 +8,7 @@
 - each limit of size reached and passed, in at most a hundred times the time that it takes now, and all at once;
 - a long history in each printed form;
 - runs by threads: scripts with one order only print what a replay of them prints, and others, with lanes too, come to their ends; ftjudge
-  calls each log whole, of a script with lanes in the order that it tells.
+  calls each log whole, of a script with lanes in the order that it tells. Rings and triggers of some come to the same in each run.
 
 Each row asks for the status and for what is written; nothing may be written to standard error.
 The last line is `edges: N passed, M failed`, and the status is 0 if nothing failed.
@@ -453,6 +453,22 @@ def check_runs(rows, program, top):
         rows.row(f"runs: nests of calls: {form}", found + [f"{lines} lines, not {count}"] * (lines != count), came.seconds)
 
 
+COUNTED = "ftrace 1; func a; trigger a:traceoff:3; trigger a:traceon:1000000; user t function; cpu 0 quantum 9; cpu 1 quantum 9; cpu 2 quantum 9; "
+COUNTED += "task 10 cpu 0; {calls}; task 11 cpu 1; {calls}; task 12 cpu 2; {calls}; ctl register t".replace("{calls}", "call a; ret; " * 3 + "call a; ret")
+# Scripts whose runs have the same lines that begin so, of rings or of triggers, whoever steps when.
+RINGS = [("realistic", "# cpu", "# cpu 0 entries 30/30; # cpu 1 entries 20/20"), ("trigger_counts", "# trigger", "# trigger 0 fired 2; # trigger 1 fired 2"),
+         (None, "# trigger", "# trigger 0 fired 3; # trigger 1 fired 12")]
+
+
+def check_rings(rows, program, top):
+    """Each of these, several times."""
+    for name, start, wanted in RINGS * 5:
+        text = (top / "examples" / f"{name}.ft").read_bytes() if name else script_texts.text(COUNTED)
+        came = runs.answer([program, "run", "--print", "rings"], text, RUN_SECONDS)
+        lines = "; ".join(line for line in came.out.decode().splitlines() if line.startswith(start))
+        rows.row(f"runs: rings of {name or 'three CPUs'}", runs.faults(came, 0) or [f"the lines are {lines}, not {wanted}"] * (lines != wanted), came.seconds)
+
+
 LANED = ["one_trampoline", "unregistered_by_another"]  # examples
 TIMES, SEEDS = 10, 20  # that each of them is run, and random scripts
 
@@ -500,5 +516,6 @@ def run(options):
     full_scripts.check(rows, options.program)
     check_forms(rows, options.program)
     check_runs(rows, options.program, options.top)
+    check_rings(rows, options.program, options.top)
     check_lanes(rows, options.program, options.top)
     return rows.end()
