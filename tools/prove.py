@@ -7,9 +7,8 @@ is kept on this machine, so after an interruption the next ./prove goes on where
 crates/PROGRAM/out/PROGRAM, where ./PROGRAM finds it, with a mark of what was proved: it counts as long as the sources and the
 kit are those. `all` proves the crates of all four programs at once.
 
-On a terminal each crate that is proved gives a line, otherwise each half minute does. The first crate that isn't proved is
-named when that is known, and at the end. The status is 0 if the program is there, 1 if something isn't proved (which is named,
-with the log), and 2 if nothing could be tried.
+Each crate that is proved gives a line. The first crate that isn't proved is named when that is known, and at the end. The status is 0 if
+the program is there, 1 if something isn't proved (which is named, with the log), and 2 if nothing could be tried.
 """
 import argparse
 import os
@@ -20,71 +19,38 @@ import signal
 import subprocess
 import sys
 import tempfile
-import threading
 import time
 
 sys.dont_write_bytecode = True
-from ftlog.proving import crate_list, marks, rattle_processes, side_by_side  # noqa: E402
+from ftlog.proving import crate_list, marks, side_by_side  # noqa: E402
 from ftlog.proving.marks import PROVED  # noqa: E402
-from ftlog.proving.progress import Progress, minutes  # noqa: E402
 
-EVERY = 30  # seconds between two lines if nobody sits at a terminal
-ENDED = re.compile(r"rt: (\w+) (proved|is kept)\b")
+ENDED = re.compile(r"rt: \w+ (?:proved|is kept)\b")
 FAILED = re.compile(r"rt: (\w+)(?:: its tests are)? NOT PROVED")
 FUNCTION = re.compile(r"fn (\S+): not proved")
 PLACE = re.compile(r"(?:note: )?(?:\./)?((?:src|specs|proofs)/\S+?:\d+):\d+:")
 
 
-class Check:
-    """A run of `rt ci` in a copy, whose lines are read as they come and kept in a log."""
-
-    def __init__(self, room, names, words, log_path):
-        self.progress, self.is_told, self.log_path, self.failed = Progress(names), sys.stdout.isatty(), log_path, None
-        how = {"stdout": subprocess.PIPE, "stderr": subprocess.STDOUT, "stdin": subprocess.DEVNULL, "env": side_by_side.environment()}
-        self.process = subprocess.Popen(["rt", "ci", *words], cwd=room, text=True, errors="replace", start_new_session=True, **how)
-
-    def now(self):
-        """The crates that are being proved."""
-        return {it.crate for it in rattle_processes.provers_below(self.process.pid)}
-
-    def tell(self):
-        """Prints how far it is, now and then, until the run has ended."""
-        while self.process.poll() is None:
-            time.sleep(EVERY)
-            if self.process.poll() is None:
-                print(self.progress.line(self.now()), flush=True)
-
-    def note(self, line):
-        """Takes in a line of the run. The first crate that isn't proved is said at once, since the others may take long."""
-        ended, failed = ENDED.match(line), FAILED.match(line)
-        if ended:
-            self.progress.note(ended[1], ended[2] != "proved")
-            if self.is_told:
-                print(self.progress.line(self.now()), flush=True)
-        elif failed and not self.failed:
-            self.failed = failed[1]
-            print(f"prove: {self.fault()}; crates that don't stand on it go on", flush=True)
-
-    def read(self):
-        """Reads the lines of the run to their end, and gives its status."""
-        if not self.is_told:
-            threading.Thread(target=self.tell, daemon=True).start()
-        with open(self.log_path, "w") as log:
-            for line in self.process.stdout:
+def check(room, count, words, log_path):
+    """Runs `rt ci` in a copy of so many crates, with its lines in a log, and tells of each that is proved. Gives the status, and what fails."""
+    how = {"stdout": subprocess.PIPE, "stderr": subprocess.STDOUT, "stdin": subprocess.DEVNULL, "env": side_by_side.environment()}
+    done, fault = 0, "nothing was built"
+    with open(log_path, "w") as log, subprocess.Popen(["rt", "ci", *words], cwd=room, text=True, errors="replace", start_new_session=True, **how) as process:
+        try:
+            for line in process.stdout:
                 log.write(line)
                 log.flush()
-                self.note(line)
-        return self.process.wait()
-
-    def fault(self):
-        """Which crate isn't proved first, and where."""
-        return f"{self.failed} isn't proved: {fault_of(self.failed, self.log_path.read_text())}" if self.failed else "nothing was built"
-
-    def stop(self):
-        """Ends the run and what it has started."""
-        if self.process.poll() is None:
-            os.killpg(self.process.pid, signal.SIGKILL)
-            self.process.wait()
+                ended, failed = ENDED.match(line), FAILED.match(line)
+                if ended:
+                    done += 1
+                    print(f"prove: {done} of {count} crates; {ended[0].removeprefix('rt: ')}", flush=True)
+                elif failed and fault == "nothing was built":
+                    fault = f"{failed[1]} isn't proved: {fault_of(failed[1], log_path.read_text())}"
+                    print(f"prove: {fault}; crates that don't stand on it go on", flush=True)
+            return process.wait(), fault
+        finally:
+            if process.poll() is None:
+                os.killpg(process.pid, signal.SIGKILL)
 
 
 def fault_of(name, text):
@@ -114,17 +80,15 @@ def prove(programs, words):
     with tempfile.TemporaryDirectory(prefix="prove-") as folder:
         room = pathlib.Path(folder) / "copy"
         names = crate_list.copy_repository(room, programs)
-        check = Check(room, names, words, log_path)
-        try:
-            status = check.read()
-        finally:
-            check.stop()
+        status, fault = check(room, len(names), words, log_path)
         if status:
-            print(f"prove: {check.fault()}; the whole log is {log_path}", flush=True)
+            print(f"prove: {fault}; the whole log is {log_path}", flush=True)
             return 1
+        minutes = max(1, round((time.monotonic() - started) / 60))
+        after = f"{minutes} minute" + "s" * (minutes > 1)
         for program in programs:
             place(program, room)
-            print(f"prove: the proved program is there, after {minutes(time.monotonic() - started)}: ./{program} runs it", flush=True)
+            print(f"prove: the proved program is there, after {after}: ./{program} runs it", flush=True)
     return 0
 
 

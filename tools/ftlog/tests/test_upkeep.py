@@ -14,8 +14,7 @@ NOTHING = "/nowhere/program"
 # Words that none of these tools can do anything for.
 WRONG = [
     ["check", "docs", "--program", NOTHING], ["check", "program", "--program", NOTHING],
-    ["check", "docs", "--program", "/"], ["check", "docs", "more"], ["check", "rings", "--count", "1", "--runs", NOTHING],
-    ["check", "rings", "--rows", "1", "--program", NOTHING], ["check", "rings", "--count", "x"], ["check", "rings", "--judge", NOTHING, NOTHING],
+    ["check", "docs", "--program", "/"], ["check", "docs", "more"],
     ["check", "pages"], ["check", "runs", NOTHING, "--count", "1"], ["check", "runs", sys.executable, "--count", "1", "--sources", "others"], ["check", "other"],
     ["make", "plain"], ["make", "plain", "--seed", "x"], ["make", "manuals", "x"], ["make", "viewed", "--seed", "1", "--lanes", "--rings"], ["make", "others"],
     ["samples"], ["samples", "more"], ["samples", "rows", "1"], ["samples", "random"], ["samples", "random", "1", "x"],
