@@ -1,11 +1,7 @@
 """Scripts and logs that a tool is given, checked as far as the tools read them, so that what is wrong with one is said in one line."""
-import sys
-
 from ftlog import files, script_reader
 from ftlog.fault import Fault
 from ftlog.limits import LIMITS
-
-LONGEST_LINE = 1_000  # bytes of a log; an item has far fewer
 
 
 def add_words(parser):
@@ -34,24 +30,3 @@ def read_script(name):
 def shown(text):
     """The first characters of what somebody wrote, fit to be said in one line."""
     return repr(text[:40])[1:-1] + (".." if len(text) > 40 else "")
-
-
-def log_lines(name):
-    """The lines of a log one by one, the last one too; nothing of what was read before is kept."""
-    try:
-        file = sys.stdin.buffer if name == files.STANDARD else open(name, "rb")
-        with file:
-            yield from lines_in(name, file)
-    except OSError as error:
-        raise Fault(f"{name}: {error.strerror or error}") from None
-
-
-def lines_in(name, file):
-    """The lines of an open log."""
-    number, line = 0, b""
-    for number, line in enumerate(iter(lambda: file.readline(LONGEST_LINE), b""), 1):
-        if not line.endswith(b"\n"):
-            raise Fault(f"{name}: line {number} isn't ended by a line feed, so the log may have been cut")
-        yield line[:-1].decode("latin-1")
-    if not number:
-        raise Fault(f"{name}: there is nothing in it")

@@ -85,8 +85,8 @@ def pattern_of(words, names):
 
 def item_of(words):
     """The item of a mark, by its first words."""
-    if words.peek() is not None and words.peek() not in log_items.WORDS:
-        words.stop(f"{quoted(words.peek())} is no item of a log: there are {', '.join(log_items.WORDS)}", "")
+    if words.peek() is not None and words.peek() not in log_items.ITEMS:
+        words.stop(f"{quoted(words.peek())} is no item of a log: there are {', '.join(log_items.ITEMS)}", "")
     item = words.words[words.at :]
     words.at = len(words.words)
     return Pattern("mark", item, False)

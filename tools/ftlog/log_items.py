@@ -1,24 +1,53 @@
-"""The items of a log one by one, each with what the script and the items before it tell of it.
+"""The items of a log one by one, as `fttell items` tells them, each with what the script says of it.
 
-Only what is open is kept: the calls and callbacks that haven't ended. So a log of any length is read in the same memory.
+fttell refuses a log with a line that is none of the script's items. Whether commands and calls lie in one another, which it doesn't ask, is
+asked here, since who draws or counts goes by it. Only what is open is kept.
 """
+import itertools
+import json
 import re
+import shutil
+import subprocess
+import tempfile
 
+from ftlog import programs
 from ftlog.fault import Fault
 from ftlog.given_logs import shown
-from ftlog.script_lines import CONTEXTS
 
 ENDS = ("end", "stopped")
-REFUSAL = re.compile(r"line [0-9]+: [a-z]+")
-# How many words each item has after its place and its name.
-WORDS = {"begin": (1, 3), "return": (2, 4), "enter": (4,), "back": (2,), "back-end": (2,), "refuse": (3,), "miss": (2,)}
-WORDS.update({"body": (3, 4), "leave": (1,), "exit": (3,), "exit-end": (2,), "ret": (2,)})
-REASONS = ("pid", "recursion", "depth")
-ANSWERS = ("ok", "already", "not-there", "invalid", "no-match", "busy")
+REFUSAL = re.compile(r"line ([0-9]+): [a-z]+")
+ITEMS = ("begin", "return", "enter", "back", "back-end", "refuse", "miss", "body", "leave", "exit", "exit-end", "ret")
 OPENS = {"back": "entry", "body": "body", "exit": "exit"}  # what these items open in a call
 ENDED_BY = {"ret": "call", "back-end": "entry", "leave": "body", "exit-end": "exit"}
-WITH_USER = ("back", "back-end", "refuse", "miss", "exit", "exit-end")  # whose first word after the call is a user
-NUMBER = re.compile("0|[1-9][0-9]*")
+OF_USER = ("entry", "exit")  # what belongs to a user
+
+
+def told(script, log):
+    """The lines of JSON that tell of a log, which is an open file, below its script."""
+    with tempfile.TemporaryFile() as given:
+        given.write(script.text + b"log\n")
+        shutil.copyfileobj(log, given)
+        given.seek(0)
+        with subprocess.Popen([programs.for_tool("fttell"), "items"], stdin=given, stdout=subprocess.PIPE) as program:
+            first = program.stdout.readline()
+            is_refused = first.startswith(b"line ")
+            yield from () if is_refused else itertools.chain([first], program.stdout)
+        if is_refused:
+            given.seek(0)
+            number = int(first.split()[1].rstrip(b":"))
+            line = next(itertools.islice(given, number - 1, None), b"").decode("latin-1").rstrip("\n")
+            refuse(first.decode().strip(), number - script.text.count(b"\n") - 1, line)
+        if program.returncode:
+            raise Fault(f"fttell: {programs.STATUSES.get(program.returncode, f'it ended with the status {program.returncode}')}")
+
+
+def refuse(said, number, line):
+    """Says why there are no items: fttell names a line of the script, or this one of the log."""
+    if number < 1:
+        raise Fault(f"the script is refused: {said}")
+    if REFUSAL.fullmatch(line):
+        raise Fault(f"the script was refused ({line}), so there is no history")
+    raise Fault(f"the log doesn't fit the script: its line {number} is {f'no such item: {shown(line)}' if line else 'missing'}")
 
 
 class Turns:
@@ -33,163 +62,58 @@ class Turns:
         return next(self.left.get(named, iter([])), None)
 
 
-class Task:
-    """A task of the script: its open calls, and what is open in them, the innermost last."""
-
-    def __init__(self, pid, cpu):
-        self.pid, self.cpu, self.calls = pid, cpu, 0
-        self.open = []  # of each what it is, its call, the called function, the context and the user
-        self.owed = {}  # of each open call the places of the entry callbacks whose exits haven't come
-
-
 class Items:
-    """Goes through the lines of a log, and gives the fields of each item. A line that doesn't fit ends it by a fault."""
+    """Goes through the items of a log, and gives the fields of each. One that lies in none that is open ends it by a fault."""
 
     def __init__(self, script):
         self.script, self.turns = script, Turns(script)
-        self.functions = {function.name for function in script.functions}
-        self.kinds = {user.name: user.kind for user in script.users.values()}
-        self.with_exit = {user.name for user in script.users.values() if user.takes_frame and not user.cancels}
-        self.tasks = {str(pid): Task(pid, cpu) for pid, cpu in script.tasks.items()}
-        self.begun, self.command = 0, None  # how many commands have begun, and the fields of the one that is under way
+        self.begun, self.command = 0, None  # how many commands have begun, and the one that is under way
         self.number = None  # of the latest command that has begun, from 0, in the order of the script
-        self.place, self.line = 0, ""
+        self.calls = dict.fromkeys(script.tasks, 0)
+        self.open = {pid: [] for pid in script.tasks}  # what is open in each task, the innermost last: what it is, its call and its user
 
-    def through(self, lines):
-        """The fields of each item and then the last line, `end` or `stopped`, which has to be the last."""
-        last = None
-        for self.line in lines:
-            self.require(last is None, "comes after the last line")
-            if self.line in ENDS:
-                last = self.line
-            else:
-                yield self.item()
-        if last is None:
-            raise Fault("the log isn't whole: its last line is neither `end` nor `stopped`")
-        yield last
+    def through(self, log):
+        """The fields of each item of a log, which is an open file, and then the last line, `end` or `stopped`."""
+        for line in told(self.script, log):
+            fields = json.loads(line)
+            if "pid" in fields:
+                self.require(self.nests(fields), fields["place"])
+            yield fields["last"] if "last" in fields else fields if "pid" in fields else self.control(fields)
 
-    def require(self, is_so, what):
-        """What is asked of the line that is being read."""
+    @staticmethod
+    def require(is_so, place, what="it lies in what isn't the innermost open one"):
+        """What is asked of the item at a place."""
         if not is_so:
-            if REFUSAL.fullmatch(self.line):
-                raise Fault(f"the script was refused ({self.line}), so there is no history")
-            raise Fault(f"the log doesn't fit the script: at place {self.place} {what}: {shown(self.line)}")
+            raise Fault(f"the log doesn't fit the script: at place {place} {what}")
 
-    def item(self):
-        """The fields of the item that the line is."""
-        place, _, rest = self.line.partition(" ")
-        item, *words = rest.split(" ")
-        self.require(place == str(self.place) and len(words) in WORDS.get(item, ()), "there is no such item")
-        fields = {"place": self.place, "item": item}
-        if item == "begin":
-            self.begin(fields, words)
-        elif item == "return":
-            self.returned(fields, words)
-        else:
-            self.of_task(fields, words)
-        self.place += 1
-        return fields
+    def control(self, fields):
+        """The fields of an item of control, with the command's text, and the answer of its line at the last one of a load or an unload."""
+        is_begin = fields["item"] == "begin"
+        if is_begin:
+            self.begun += 1
+            self.require(self.command is None, fields["place"])
+            self.number = self.turns.next(f"lane {fields['lane']}" if "lane" in fields else "")
+            self.command = None if self.number is None else self.script.commands[self.number]
+        self.require(self.command is not None and fields["command"] == self.begun, fields["place"], "there is no such command")
+        first = {name: fields[name] for name in ("place", "item", "command")}
+        found = {**first, "text": self.command.line, **fields}
+        if not is_begin:
+            found.update({} if self.command.answer is None else {"line_answer": self.command.answer})
+            self.command = None
+        return found
 
-    def begin(self, fields, words):
-        """A command begins: its number, its text and, if the log names it, its lane."""
-        self.begun += 1
-        self.require(self.command is None and words[0] == str(self.begun), "it is no command's turn")
-        at = self.turns.next(" ".join(words[1:]))
-        self.require(at is not None, "there is no such command")
-        self.number, self.command = at, {"command": self.begun, "text": self.script.commands[at].line}
-        if len(words) == 3:
-            self.command["lane"] = int(words[2])
-        self.answer = self.script.commands[at].answer
-        fields.update(self.command)
-
-    def returned(self, fields, words):
-        """The command returns: the same, and its answer. The last one of a load or an unload has its line's answer too."""
-        self.require(self.command is not None and words[0] == str(self.begun), "no such command is under way")
-        answer, *shared = words[1:]
-        self.require(answer in ANSWERS and len(shared) == (2 if answer == "busy" else 0), "there is no such answer")
-        fields.update(self.command)
-        fields["answer"] = answer
-        if shared:
-            self.require(shared[0] in self.functions and shared[1] in self.kinds, "what it is busy with isn't declared")
-            fields["function"], fields["user"] = shared
-        if self.answer is not None:
-            fields["line_answer"] = self.answer
-        self.command = None
-
-    def of_task(self, fields, words):
-        """An item of a task."""
-        task = self.tasks.get(words[0].partition(".")[0])
-        self.require(task is not None, "there is no such task")
-        fields["pid"], fields["cpu"], fields["call"] = task.pid, task.cpu, words[0]
-        if fields["item"] == "enter":
-            self.enter(fields, task, words)
-        else:
-            self.in_call(fields, task, words)
-
-    def enter(self, fields, task, words):
-        """A call is entered: it is the task's next one, made in the innermost open one."""
-        call, context, function, caller = words
-        task.calls += 1
-        self.require(call == f"{task.pid}.{task.calls}", "it isn't the task's next call")
-        self.require(context in CONTEXTS and function in self.functions, "the function isn't declared, or there is no such context")
-        self.require(caller == (task.open[-1][1] if task.open else "-"), "that call isn't the innermost open one")
-        fields["context"], fields["function"], fields["caller"] = context, function, None if caller == "-" else caller
-        task.open.append(("call", call, function, context, None))
-        task.owed[call] = []
-
-    def in_call(self, fields, task, words):
-        """An item of the innermost open call."""
-        item, call = fields["item"], words[0]
-        self.require(task.open and task.open[-1][1] == call, "that call isn't the innermost open one")
-        what, _, function, context, user = task.open[-1]
-        fields["context"], fields["function"] = context, function
-        if item in WITH_USER:
-            self.require(words[1] in self.kinds, "the user isn't declared")
-            fields["user"], fields["user_kind"] = words[1], self.kinds[words[1]]
-        if item in ENDED_BY:
-            self.require(what == ENDED_BY[item] and user == fields.get("user"), "it ends what isn't the innermost open one")
-            task.open.pop()
-        elif item == "miss":
-            self.require((what, user) == ("entry", words[1]), "it isn't in an entry of that user")
-        else:
-            self.require(what == "call", "something else is open in that call")
+    def nests(self, fields):
+        """Whether an item of a task lies in what is open there, which it then opens or ends."""
+        item, call, task = fields["item"], fields["call"], self.open[fields["pid"]]
+        inner = task[-1] if task else (None, None, None)
+        if item == "enter":
+            self.calls[fields["pid"]] += 1
+            task.append(("call", call, None))
+            return (call, fields["caller"]) == (f"{fields['pid']}.{self.calls[fields['pid']]}", inner[1])
+        what = "entry" if item == "miss" else ENDED_BY.get(item, "call")
+        is_inner = inner == (what, call, fields.get("user") if what in OF_USER else None)
+        if item in ENDED_BY and task:
+            task.pop()
         if item in OPENS:
-            task.open.append((OPENS[item], call, function, context, fields.get("user")))
-        self.more(fields, task, item, words)
-        self.owe(fields, task.owed, item, call)
-
-    def owe(self, fields, owed, item, call):
-        """Which exits are to come: an entry callback may set one up, a miss says that it found no room, and an exit is one of them."""
-        if item == "back" and fields["user"] in self.with_exit:
-            owed[call].append(self.place)
-        elif item == "miss" and fields["user"] in self.with_exit:
-            owed[call].pop()
-        elif item == "exit" and fields["entry"] in owed[call]:
-            owed[call].remove(fields["entry"])
-        elif item == "ret":
-            lost = owed.pop(call)
-            if lost:
-                fields["lost"] = lost
-
-    def more(self, fields, task, item, words):
-        """What only some items have."""
-        if item == "refuse":
-            self.require(words[2] in REASONS, "there is no such reason")
-            fields["reason"] = words[2]
-        elif item == "exit":
-            self.require(NUMBER.fullmatch(words[2]) and int(words[2][:20]) < self.place, "no entry is at that place")
-            fields["entry"] = int(words[2])
-        elif item == "ret":
-            self.require(words[1] == (task.open[-1][1] if task.open else "-"), "it reaches what isn't its caller")
-            fields["caller"] = None if words[1] == "-" else words[1]
-        elif item == "body":
-            self.body(fields, words)
-
-    def body(self, fields, words):
-        """Whose body runs, and what the call's site called; of a user's own trampoline that user."""
-        runs, ran, *own = words[1:]
-        self.require(runs in self.functions, "the function isn't declared")
-        self.require(ran == "own" and own and own[0] in self.kinds or ran in ("nop", "list") and not own, "no site calls that")
-        fields["body"], fields["ran"] = runs, ran
-        if own:
-            fields["user"], fields["user_kind"] = own[0], self.kinds[own[0]]
+            task.append((OPENS[item], call, fields["user"] if OPENS[item] in OF_USER else None))
+        return is_inner and (item != "ret" or fields["caller"] == (task[-1][1] if task else None))

@@ -1,13 +1,13 @@
 """Reads a whole log: what happened, as boxes that lie in one another.
 
-The items are those of log_items.py, which asks that each fits the script and what is open; here an exit has to name its entry, too, and a
-call to have one body. A log can have millions of items, so what is known of its boxes is kept in arrays (log_boxes.py).
+The items are those of log_items.py, each of which lies in what is open; here an exit has to name its entry, too, and a call to have one
+body. A log can have millions of items, so what is known of its boxes is kept in arrays (log_boxes.py).
 """
 import dataclasses
 import io
 from typing import Dict, List, NamedTuple, Optional
 
-from ftlog import given_logs, log_boxes, log_items
+from ftlog import log_boxes, log_items
 from ftlog.fault import Fault
 
 # The kinds of boxes that items of a task begin, the items that end one, and those that are a box at a single place.
@@ -111,12 +111,6 @@ class Reader:
             boxes.owes[box] = not self.script.users[fields["user"]].cancels
             boxes.framed[box] = True
 
-    def require(self, is_so, fields, what):
-        """What is asked of an item besides what log_items.py asks of it."""
-        if not is_so:
-            self.items.place = fields["place"]
-            self.items.require(False, what)
-
     @staticmethod
     def note(fields):
         """What a box tells besides: why a callback was refused, or what the site of a call called; None if there is nothing."""
@@ -128,14 +122,14 @@ class Reader:
         """The box of the entry callback that an exit names by its place."""
         box = self.boxes.at(str(fields["entry"]))
         is_one = box is not None and self.boxes.is_entry_of(box, task, self.boxes.number[inner], self.users[fields["user"]])
-        self.require(is_one, fields, "there is no such entry")
+        self.items.require(is_one, fields["place"], "there is no such entry")
         self.boxes.owes[box] = False
         return box
 
     def begin_body(self, task, box, fields):
         """A call has one body."""
         call = self.boxes.number[box] - 1
-        self.require(self.boxes.bodies[task][call] == log_boxes.NONE, fields, "there is one already")
+        self.items.require(self.boxes.bodies[task][call] == log_boxes.NONE, fields["place"], "there is one already")
         self.boxes.bodies[task][call] = box
 
     def history(self, lines, is_ended):
@@ -152,12 +146,13 @@ def is_number(word):
 
 def read_log(text, script, told=lambda count: None):
     """The history that a log with these bytes tells of a script. After each item, `told` gets how many there are so far."""
-    reader, lines, file = Reader(script), log_boxes.Lines(text), io.BytesIO(text)
-    for fields in reader.items.through(given_logs.lines_in("the log", file)):
+    reader, lines, end = Reader(script), log_boxes.Lines(text), 0
+    for fields in reader.items.through(io.BytesIO(text)):
         if fields in log_items.ENDS:
             return reader.history(lines, fields == "end")
         reader.keep(fields)
-        lines.ends_at(file.tell())
+        end = text.index(b"\n", end) + 1
+        lines.ends_at(end)
         told(fields["place"] + 1)
     raise AssertionError("the last of the items is the last line")
 

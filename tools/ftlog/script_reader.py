@@ -75,6 +75,7 @@ class Script(NamedTuple):
     control: List[List[str]] = []  # all lines of control, waits among them: their words after `ctl`
     turns: List[script_lines.Item] = []  # the schedule
     said: List[script_lines.Line] = []  # the lines that say something
+    text: bytes = b""  # all of it
 
 
 def user_of(said):
@@ -192,7 +193,7 @@ def read_script(text):
                 reader.add(line)
             except (IndexError, ValueError):  # an act above all tasks, or a trigger of another form
                 raise Fault(f"line {line.number} of the script can't stand there: {script_lines.quoted(line.text)}") from None
-    return reader.read()
+    return reader.read()._replace(text=text)
 
 
 def check(script):

@@ -7,7 +7,7 @@ import io
 import re
 from typing import Dict, List, NamedTuple
 
-from ftlog import given_logs, log_items
+from ftlog import files, log_items
 from ftlog.fault import Fault
 from ftlog.given_logs import shown
 
@@ -122,11 +122,14 @@ class Reader:
 
     def fields(self, last):
         """The fields of each item; the items have to be a history of the script."""
-        lines = [f"{place} {item}" for place, item in enumerate(self.trace.items)]
-        return [fields for fields in log_items.Items(self.script).through([*lines, last]) if isinstance(fields, dict)]
+        lines = [f"{place} {item}\n" for place, item in enumerate(self.trace.items)]
+        log = io.BytesIO("".join([*lines, last, "\n"]).encode("latin-1"))
+        return [fields for fields in log_items.Items(self.script).through(log) if isinstance(fields, dict)]
 
 
 def read(name, script, text=None):
     """The step trace in a file, or in this text, which is then called by the name."""
-    lines = given_logs.log_lines(name) if text is None else given_logs.lines_in(name, io.BytesIO(text))
-    return Reader(name, script).read(lines)
+    text = files.read(name) if text is None else text
+    if not text.endswith(b"\n"):
+        raise Fault(f"{name}: its last line isn't ended by a line feed, so it may have been cut")
+    return Reader(name, script).read(text.decode("latin-1").split("\n")[:-1])

@@ -3,9 +3,10 @@
 The text of each form is proved; these are for what isn't printed so, as the columns of a kernel, and rings of running threads.
 """
 import collections
+import io
 from typing import NamedTuple, Optional
 
-from ftlog import given_logs, log_items, script_reader
+from ftlog import files, given_logs, log_items, script_reader
 
 LETTERS = {"normal": ".", "softirq": "s", "irq": "h", "nmi": "z"}
 
@@ -77,7 +78,7 @@ def levels(told, user):
 def read(script_name, log_name):
     """What a script and its log, which have these names, tell. The log is gone through first, so it fits."""
     text, script = given_logs.read_script(script_name)
-    lines = list(given_logs.log_lines(log_name))
-    for _ in log_items.Items(script).through(lines):
+    log = files.read(log_name)
+    for _ in log_items.Items(script).through(io.BytesIO(log)):
         pass
-    return Told(text, "".join(line + "\n" for line in lines).encode("latin-1"))
+    return Told(text, log)

@@ -1,13 +1,12 @@
 """Writes a log as JSON, one object a line, with the names that the log leaves to its script.
 
 The first line says the format, its version, what each field is, and what the script declares; then comes a line for each
-item, and the last line says how the log ends. The log is read line by line, so its length makes no difference to the
-memory that is taken.
+item, as `fttell items` tells it, and the last line says how the log ends.
 """
 import json
 import sys
 
-from ftlog import given_logs, log_items
+from ftlog import files, given_logs, log_items
 
 FORMAT, VERSION = "ftcore-log", 1
 FIELDS = {
@@ -53,11 +52,15 @@ def head(script):
 def run(options):
     """Writes the objects, and gives the status."""
     _, script = given_logs.read_script(options.script)
-    items, encode, write = log_items.Items(script), json.JSONEncoder().encode, sys.stdout.write
-    write(encode(head(script)) + "\n")
-    for fields in items.through(given_logs.log_lines(options.log)):
-        if fields in log_items.ENDS:
-            fields = {"last": fields, "items": items.place}
-        write(encode(fields) + "\n")
+    items, begun = log_items.Items(script), json.dumps(head(script)) + "\n"
+    with sys.stdin.buffer if options.log == files.STANDARD else open(options.log, "rb") as log:
+        for line in log_items.told(script, log):
+            fields = {} if b'"pid": ' in line else json.loads(line)
+            if "last" in fields:
+                fields = {name: fields[name] for name in ("last", "items")}
+            elif fields:
+                fields = items.control(fields)
+            sys.stdout.write(begun + (json.dumps(fields) + "\n" if fields else line.decode()))
+            begun = ""
     sys.stdout.flush()
     return 0

@@ -178,17 +178,16 @@ class Wrong(unittest.TestCase):
                              ("ftrace 1\nring 4000000000\n", "rings of a size"), ("ftrace 1\ntask 10 cpu 7\n", "no CPU for task 10"),
                              ("ftrace 1\nctl register nobody\n", "no such user"), ("ftrace 1\nuser t function\nctl filter t\n", "has no form"),
                              ("ftrace 1\nabsent m\nctl load\n", "no form"), ("ftrace 1\nctl\n", "has no form"),
-                             (SCRIPT.replace("func b\n", ""), "isn't declared"), ("ftrace 1\ntask " + "9" * 5000 + "\n", "has no form")]:
+                             (SCRIPT.replace("func b\n", ""), "no such item: 6 enter"), ("ftrace 1\ntask " + "9" * 5000 + "\n", "has no form")]:
             self.assertRegex(self.told(script=script), said)
 
     def test_logs(self):
-        for log, said in [("", "nothing in it"), ("end", "may have been cut"), ("\n\n\n", "no such item"), (b"\xff\xfe\nend\n", "no such item"),
-                          (log_of(ITEMS)[:-4], "isn't whole"), (log_of(ITEMS[1:]), "no such command"), ("line 3: syntax\n", "was refused"),
-                          (log_of(ITEMS[:2] + ["enter 99999999999999999999.1 normal a -"]), "no such task"),
-                          (log_of(ITEMS[:2] + ["enter 10.2 normal a -"]), "next call"), (log_of(ITEMS[:2] + ["enter 10.1 often a -"]), "no such context"),
-                          (log_of(ITEMS[:3] + ["exit 10.1 gr " + "9" * 5000]), "may have been cut"), (log_of(ITEMS[:3] + ["exit 10.1 gr 2"]), "no such entry"),
-                          (log_of(ITEMS[:3] + ["body 10.1 a own x"]), "no site calls that"), (log_of(ITEMS[:3] + ["refuse 10.1 gr luck"]), "no such reason"),
-                          (log_of(ITEMS[:3] + ["ret 10.2 -"]), "innermost"), ("0 begin 1 lane 0\nend\n", "no such command"), ("0\nend\n", "no such item")]:
+        wrong = ["enter 99999999999999999999.1 normal a -", "enter 10.1 often a -", "body 10.1 a own x", "refuse 10.1 gr luck", "exit 10.1 gr " + "9" * 5000]
+        rows = [("", "1 is missing"), ("end", "no such item"), ("\n\n\n", "1 is missing"), (b"\xff\xfe\nend\n", "no such item"), ("0\nend\n", "no such item"),
+                (log_of(ITEMS)[:-4], "23 is missing"), (log_of(ITEMS[1:]), "no such command"), ("line 3: syntax\n", "was refused"),
+                ("0 begin 1 lane 0\nend\n", "no such item"), (log_of(ITEMS[:2] + ["enter 10.2 normal a -"]), "innermost"),
+                (log_of(ITEMS[:3] + ["ret 10.2 -"]), "innermost"), (log_of(ITEMS[:3] + ["exit 10.1 gr 2"]), "no such entry")]
+        for log, said in [*rows, *((log_of(ITEMS[:3] + [item]), "4 is no such item") for item in wrong)]:
             self.assertRegex(self.told(log=log), said)
 
     def test_words(self):

