@@ -2,8 +2,8 @@
 
 - the words of the command, in the language and not: those of command_words.py, which gives ftjudge words, too;
 - scripts with what is printed for them, those of script_texts.py, and those that are refused or nearly so, of refused_scripts.py and line_forms.py;
-- which functions a user traces, by patterns, filter texts and edits, what commands are answered, and what comes of lines that load and
-  unload modules: the rows of selected_functions.py, command_answers.py and module_lines.py;
+- which functions a user traces, by patterns and filter texts, and what comes of lines that load and unload modules: the rows of
+  selected_functions.py and module_lines.py;
 - each status with its cause: streams that fail, too long an input, and memory from too little to begin up to ample;
 - each limit of size reached and passed, in at most a hundred times the time that it takes now, and all at once;
 - a long history in each printed form;
@@ -20,7 +20,7 @@ import shlex
 from typing import Callable, NamedTuple, Optional
 
 from ftlog import programs, runs
-from ftlog.checks import check_docs, command_answers, command_words, full_scripts, judging, line_forms, memory_limits, module_lines
+from ftlog.checks import check_docs, command_words, full_scripts, judging, line_forms, memory_limits, module_lines
 from ftlog.checks import refused_scripts, script_texts, selected_functions
 from ftlog.make import script_forms as forms, viewed_scripts
 
@@ -509,7 +509,6 @@ def run(options):
     line_forms.check(rows, options.program)
     selected_functions.check(rows, options.program)
     module_lines.check(rows, options.program)
-    command_answers.check(rows, options.program)
     check_streams(rows, options.program)
     check_memory(rows, options.program, options.top)
     check_limits(rows, options.program)

@@ -1,6 +1,5 @@
-"""Which functions a user traces or a trigger is hit by, as the form `enabled`, or that of rings, shows of the built program: patterns, filter
-texts, edits one after the other, and sets at the borders of words. What the other program, which was written from the same rules by
-other hands, prints is the same.
+"""Which functions a user traces or a trigger is hit by, as the form `enabled`, or that of rings, shows of the built program: patterns and filter
+texts. What the other program, which was written from the same rules by other hands, prints is the same.
 """
 from ftlog.checks import refused_scripts, script_texts
 from ftlog.make import script_forms as forms
@@ -51,13 +50,6 @@ TRIGGERS = [("a:traceon", 0), ("read:traceon", 1), ("*:traceoff:3", 3), ("*_*:tr
             ("!read:traceon", 0)]
 NO_TRIGGERS = ["a:b", "a:traceo", "a:traceons", "a::traceon", "a:traceon:+1", "a:traceon:1:2", "a:traceon:12345678", "a\\b:traceoff:1"]
 
-# Edits of one user, one after the other, and which of the three functions a, b and c it traces then.
-EDITS = [("filter", ">> ![ac]", "abc"), ("filter", "> zz", "abc"), ("filter", "> a", "a"), ("filter", ">> c", "ac"), ("filter", ">> ![ab]", "c"), ("notrace", ">> b", "c"),
-         ("filter", "> [ab]", "a"), ("notrace", "> [ac]", "b"), ("notrace", ">> !c", "b"), ("filter", ">> !b", ""), ("filter", ">> !a", "bc"), ("filter", ">> [bc]", "bc"),
-         ("filter", "> !b", "bc"), ("filter", "> b", "b"), ("filter", ">", "bc"), ("notrace", ">", "abc")]
-
-SIZES = [1, 63, 64, 65, 128, 129, 1_024, 4_096]
-
 
 def enabled(what, script, lines):
     """A row of the form `enabled`: a script, and the lines before the last one."""
@@ -105,34 +97,6 @@ def text_rows():
         yield f"trigger {text}", ["replay"], script_texts.text(f"{THREE}trigger {text}"), b"line 5: pattern\n"
 
 
-def edit_rows():
-    """One edit more in each row."""
-    script = "ftrace 1; func a; func b; func c; user t function; ctl register t"
-    for half, text, names in EDITS:
-        script += f"; ctl {half} t {text}"
-        yield enabled(f"after the edit {half} {text}", script, own(names))
-
-
-def size_rows():
-    """Users at the borders of words: one traces all functions but the last, and users come and go at the ends of words. A slot that is free
-    again goes to the next user."""
-    for size in SIZES:
-        names = [f"f{number}" for number in range(size)]
-        script = f"ftrace 2; {'; '.join(f'func {name}' for name in names)}; user t function; ctl filter t > *; ctl notrace t > {size}; ctl register t"
-        yield enabled(f"{size} functions without the last", script, own(names[:-1]))
-        yield enabled(f"{size} functions", script + f"; ctl notrace t >> !{names[-1]}", own(names))
-    names, ends = [f"f{number}" for number in range(130)], [0, 63, 64, 129]
-    script = f"ftrace 1; {'; '.join(f'func {name}' for name in names)}; user t function regs; user u function; ctl register u; ctl filter t > f0; "
-    script += "".join(f"ctl filter t >> f{number}; " for number in ends) + "ctl register t"
-    both = [f"{name} (2) R   list" if number in ends else f"{name} (1)     own u" for number, name in enumerate(names)]
-    yield enabled("users of 130 functions and of four", script, both)
-    yield enabled("users of 130 functions and of none", script + "; ctl unregister t", [f"{name} (1)     own u" for name in names])
-    yield enabled("the user of four functions", script + "; ctl unregister u", [f"{names[number]} (1) R   own t" for number in ends])
-    script = "ftrace 1; func a; func b; func c; tramps 1; user t function; user u function; user v function; ctl filter t > a; ctl filter u > b; ctl filter v > c; "
-    script += "ctl register t; ctl register u; ctl unregister t; ctl register v"
-    yield enabled("one slot, which is free again", script, ["b (1)     list", "c (1)     own v"])
-
-
 def check(rows, program):
     """A row for each."""
-    script_texts.check_each(rows, program, [*pattern_rows(), *text_rows(), *edit_rows(), *size_rows()])
+    script_texts.check_each(rows, program, [*pattern_rows(), *text_rows()])
