@@ -2,7 +2,7 @@
 
 - the words of the command, in the language and not: those of command_words.py, which gives ftjudge words, too;
 - scripts with what is printed for them, those of script_texts.py, and those that are refused or nearly so, of refused_scripts.py and line_forms.py;
-- which functions a user traces, by patterns and filter texts, and what comes of lines that load and unload modules: the rows of
+- which functions a user traces, by patterns and filter texts, and which calls may find their module unloaded: the rows of
   selected_functions.py and module_lines.py;
 - each status with its cause: streams that fail, too long an input, and memory from too little to begin up to ample;
 - each limit of size reached and passed, in at most a hundred times the time that it takes now, and all at once;

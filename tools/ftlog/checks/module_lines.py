@@ -1,5 +1,5 @@
-"""Scripts whose modules come and go, each run by the program: what a line that loads or unloads comes to, and which calls are refused since
-their module may not be there. What the other program, which was written from the same rules by other hands, prints is the same.
+"""Scripts whose modules come and go, each run by the program: which calls are refused since their module may not be there.
+What the other program, which was written from the same rules by other hands, prints is the same.
 """
 from ftlog.checks import script_texts
 
@@ -36,48 +36,13 @@ UNCOVERED = {
     "the outer one of two calls": ("absent ext3; " + TASK + "call e; call g; ret; ret", 9),
 }
 
-# Declarations, lines one after the other, each with the form `enabled` after it, and the form `modules` in the end.
-LINES = [
-    ("the filter of an absent module takes effect at the load", "absent ext3; user t function",
-     [("ctl register t", "a (1)     own t; s (1)     own t; end"),
-      ("ctl load ext3", "a (1)     own t; e (1)     own t; g (1)     own t; s (1)     own t; end"),
-      ("ctl load ext3", "a (1)     own t; e (1)     own t; g (1)     own t; s (1)     own t; end"),
-      ("ctl maxdepth 3", "a (1)     own t; e (1)     own t; g (1)     own t; s (1)     own t; end"),
-      ("ctl unload ext3", "a (1)     own t; s (1)     own t; end"),
-      ("ctl unload ext3", "a (1)     own t; s (1)     own t; end")],
-     "load ext3 ok 3 4; load ext3 already 5 5; unload ext3 ok 7 8; unload ext3 not-there 9 9; end"),
-    ("users keep the notrace sets that they were given", "user t function; user u function; ctl register t; ctl register u",
-     [("ctl notrace t > a", "a (1)     own u; e (2)     list; g (2)     list; s (2)     list; end"),
-      ("ctl notrace u > zz", "a (1)     own u; e (2)     list; g (2)     list; s (2)     list; end"),
-      ("ctl unload snd", "a (1)     own u; e (2)     list; g (2)     list; end"),
-      ("ctl notrace t > e", "a (2)     list; e (1)     own u; g (2)     list; end"),
-      ("ctl notrace u >", "a (2)     list; e (1)     own u; g (2)     list; end"),
-      ("ctl load snd", "a (2)     list; e (1)     own u; g (2)     list; s (2)     list; end"),
-      ("ctl notrace t >", "a (2)     list; e (2)     list; g (2)     list; s (2)     list; end"),
-      ("ctl unload ext3", "a (2)     list; s (2)     list; end")],
-     "unload snd ok 5 7; load snd ok 10 12; unload ext3 ok 14 16; end"),
-    ("two users would replace the functions of the module", "absent ext3; user t function; user u function regs ipmodify a; user v function regs ipmodify a",
-     [("ctl filter u > [eg]; ctl filter v > [eg]; ctl register t; ctl register v; ctl register u", "a (1)     own t; s (1)     own t; end"),
-      ("ctl load ext3", "a (1)     own t; s (1)     own t; end"),
-      ("ctl notrace v > [eg]", "a (1)     own t; s (1)     own t; end"),
-      ("ctl load ext3", "a (1)     own t; e (2) R I list; g (2) R I list; s (1)     own t; end")],
-     "load ext3 busy e u 9 9; load ext3 ok 11 14; end"),
-]
-
 
 def all_rows():
     """Each script with what is printed."""
-    modules, enabled = (["replay", "--print", form] for form in ("modules", "enabled"))
     for what, (script, printed) in COVERED.items():
-        yield f"modules: {what}", modules, script_texts.text(FOUR + script), script_texts.text(printed)
+        yield f"modules: {what}", ["replay", "--print", "modules"], script_texts.text(FOUR + script), script_texts.text(printed)
     for what, (script, line) in UNCOVERED.items():
         yield f"modules: {what}", ["replay"], script_texts.text(FOUR + script), f"line {line}: unloaded\n".encode()
-    for what, declared, steps, printed in LINES:
-        script = FOUR + declared
-        for line, after in steps:
-            script += "; " + line
-            yield f"modules: {what}: {line}", enabled, script_texts.text(script), script_texts.text(after)
-        yield f"modules: {what}", modules, script_texts.text(script), script_texts.text(printed)
 
 
 def check(rows, program):
