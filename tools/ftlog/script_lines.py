@@ -227,20 +227,6 @@ def read_trigger(words):
     return said
 
 
-def read_cpu(words):
-    """`cpu N quantum Q`."""
-    said = {"N": words.number("the CPU's number")}
-    words.literal("quantum")
-    return {**said, "Q": words.number("the quantum")}
-
-
-def read_task(words):
-    """`task PID cpu N`."""
-    said = {"PID": words.number("the pid")}
-    words.literal("cpu")
-    return {**said, "N": words.number("the CPU's number")}
-
-
 def read_kind(words):
     """The kind of a user, which may be of several words."""
     if words.takes(*KINDS) is None:
@@ -330,34 +316,36 @@ def read_pids(words):
     return {"PID": pids}
 
 
-def read_until(words):
-    """`until PID N`."""
-    return {"PID": words.number("the task's pid"), "N": words.number("how many acts")}
+# What is said of a part of a form that isn't there, for one form alone or for all.
+PARTS = {
+    "U": "the user's name", "M": "the module's name", "FUNC": "the function's name", "CAP": "the number of entries", "Q": "the quantum", "PID": "the pid",
+    "cpu N": "the CPU's number", "task N": "the CPU's number", "depth N": "the number of frames", "tramps N": "the number of slots", "lane N": "the lane's number",
+    "after N": "the number of commands", "ctl maxdepth N": "the depth", "ctl until PID": "the task's pid", "ctl until N": "how many acts",
+}
+NAMES = ("U", "M", "FUNC")
 
 
-def of_name(name, what):
-    """Reads the one name that a line has."""
-    return lambda words: {name: words.name(what)}
+def as_written(key):
+    """Reads a line by its form in WRITTEN: names, numbers and the words between them."""
 
+    def read(words):
+        """What the line says."""
+        said = {}
+        for part in WRITTEN[key][0].split()[len(key.split()):]:
+            what = PARTS.get(f"{key} {part}", PARTS.get(part))
+            if what is None:
+                words.literal(part)
+            else:
+                said[part] = words.name(what) if part in NAMES else words.number(what)
+        return said
 
-def of_number(name, what):
-    """Reads the one number that a line has."""
-    return lambda words: {name: words.number(what)}
+    return read
 
 
 READERS: Dict[str, Callable] = {
-    "ftrace": read_version, "func": read_func, "tracing": read_tracing, "trigger": read_trigger, "user": read_user, "cpu": read_cpu,
-    "task": read_task, "sched": read_sched, "ctl until": read_until, "ctl pid": read_pids, "ctl nopid": read_pids,
-    "depth": of_number("N", "the number of frames"), "tramps": of_number("N", "the number of slots"),
-                                "absent": of_name("M", "the module's name"),
-    "ring": of_number("CAP", "the number of entries"), "call": of_name("FUNC", "the function's name"),
-                                "lane": of_number("N", "the lane's number"),
-    "after": of_number("N", "the number of commands"), "ctl maxdepth": of_number("N", "the depth"), "ctl filter": read_edit,
-                                "ctl notrace": read_edit,
+    **{key: as_written(key) for key in WRITTEN}, "ftrace": read_version, "func": read_func, "tracing": read_tracing, "trigger": read_trigger, "user": read_user,
+    "sched": read_sched, "ctl pid": read_pids, "ctl nopid": read_pids, "ctl filter": read_edit, "ctl notrace": read_edit,
 }
-READERS.update({f"ctl {word}": of_name("U", "the user's name") for word in ("register", "unregister", "enable", "disable")})
-READERS.update({f"ctl {word}": of_name("M", "the module's name") for word in ("load", "unload")})
-READERS.update({word: lambda words: {} for word in ACTS if word not in READERS})
 FIRST_WORDS = [*(key for key in READERS if " " not in key), "ctl"]
 
 
