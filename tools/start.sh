@@ -45,7 +45,7 @@ trap 'rm -rf "$room"' EXIT
 case $name:${1-} in
 ftcore:replay | ftcore:run) head -c 64M >"$room/input" 2>/dev/null || exit 4 ;;
 fttell:steps) head -c 64M >"$room/input" 2>/dev/null || exit 4 ;;
-fttell:items | ftjudge:) head -c 1100M >"$room/input" 2>/dev/null || exit 4 ;;
+fttell:facts | fttell:items | ftjudge:) head -c 1100M >"$room/input" 2>/dev/null || exit 4 ;;
 ftoutcomes:random | ftoutcomes:search) head -c 64M >"$room/input" 2>/dev/null || exit 4 ;;
 esac
 

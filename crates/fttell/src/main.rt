@@ -1,6 +1,8 @@
 //! The program `fttell`: a script comes in on standard input, and what came of it goes out on standard
 //! output, for programs to read. The word says what is told:
 //!
+//! - `facts`: what the script says and declares, and its commands with their answers and the sites that
+//!   they change, as JSON, one object a line (`told_facts`);
 //! - `items`: the items of the replay, or those of the log that stands below a line `log`, as JSON, one
 //!   object a line (`told_items`);
 //! - `steps`: the step trace of the replay, one line a step: whose turn it was, whether the step loads,
@@ -14,6 +16,7 @@
 //! replay's log; that a step's line says so is only tested.
 #![tactic(auto)]
 
+mod facts;
 mod input;
 mod items;
 mod names;
@@ -22,6 +25,7 @@ mod order;
 mod telling;
 mod trace;
 
+use crate::facts::tell_facts;
 use crate::items::tell_items;
 use crate::order::{Order, read_order};
 use crate::trace::trace_script;
@@ -37,6 +41,7 @@ fn run_program<R: Env + AllocGlobal, S: Source, K: Sink>(
     sink: K,
 ) -> (Status, K) {
     match read_order(rt) {
+        Ok(Order::Facts) => tell_facts(rt.alloc(), source, sink),
         Ok(Order::Items) => tell_items(rt.alloc(), source, sink),
         Ok(Order::Steps) => trace_script(rt.alloc(), source, sink),
         Err(status) => (status, sink),

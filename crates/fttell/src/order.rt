@@ -8,6 +8,7 @@ use std::rt::Env;
 /// What is to be told.
 #[derive(Clone, Copy)]
 pub(crate) enum Order {
+    Facts,
     Items,
     Steps,
 }
@@ -15,6 +16,7 @@ pub(crate) enum Order {
 /// The order that a word gives. `None` if it isn't in the language.
 fn order_of(word: &str) -> Option<Order> {
     match word {
+        "facts" => Some(Order::Facts),
         "items" => Some(Order::Items),
         "steps" => Some(Order::Steps),
         _ => None,

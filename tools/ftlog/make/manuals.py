@@ -43,7 +43,8 @@ MANUALS = {  # of each what it is for, how it is called, and its parts
         Part("DESCRIPTION", "JUDGE.md", "Judging a log", "text", most=2),
         Part("VERDICTS AND EXIT STATUS", "JUDGE.md", "Judging a log", "table", ("it writes", "status", "if")),
         Part("RULES", "JUDGE.md", "Judging a log", "table", ("RULE", "what fails"))]),
-    "fttell": ("tell what came of a script, for programs to read", "fttell items < INPUT\nfttell steps < SCRIPT", [
+    "fttell": ("tell what came of a script, for programs to read", "fttell facts < INPUT\nfttell items < INPUT\nfttell steps < SCRIPT", [
+        Part("FACTS", "TOOLS.md", "The facts of a script", "text code table"),
         Part("ITEMS", "TOOLS.md", "The items as JSON", "text code table"), Part("STEPS", "TOOLS.md", "Step traces", "text code")]),
     "ftoutcomes": ("find the outcomes of a script whose commands and calls race",
                    "ftoutcomes random SEED TRIES < SCRIPT\nftoutcomes search SWITCHES TRIES < SCRIPT", [
