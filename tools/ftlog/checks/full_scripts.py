@@ -11,7 +11,8 @@ from ftlog.checks import command_words, memory_limits
 from ftlog.make import script_forms as forms
 
 SECONDS, RUN_SECONDS = 60, 600  # of a replay, and of a run by threads, whose end depends on the system
-OF_A_FEW_LINES = ["replay", "--print", "graph"]  # without graph users; it keeps all items, as the log does
+OF_A_FEW_LINES = ["replay", "--print", "graph"]  # without graph users, so that it keeps no item
+ITEM = 2 * 32  # bytes of an item of a history, in a list that has room for twice as many at most
 PART = 4  # a log is written in pieces: it may take a fourth of its own length besides what its history takes
 
 
@@ -88,7 +89,7 @@ def check_full(rows, program):
 
 
 def check_memory_of_log(rows, program):
-    """The log needs hardly more address space than a form of a few lines that keeps all items, too: it is never whole in memory."""
+    """The log needs hardly more address space than a form of a few lines and its own items: its text is never whole in memory."""
     text = script(forms.VERSION_2)
     log = runs.answer([program, "replay"], text, SECONDS)
     few = runs.answer([program, *OF_A_FEW_LINES], text, SECONDS)
@@ -98,7 +99,8 @@ def check_memory_of_log(rows, program):
         whole = [memory_limits.WHOLE]
         of_log = memory_limits.Order(program, ["replay"], text, 0, log.out).least(whole, least)
         of_few = memory_limits.Order(program, OF_A_FEW_LINES, text, 0, few.out).least(whole, least)
-        found = [f"{of_log:,} bytes of address space, and {of_few:,} for a few lines"] * (of_log > of_few + len(log.out) // PART)
+        most = of_few + ITEM * log.out.count(b"\n") + len(log.out) // PART
+        found = [f"{of_log:,} bytes of address space, and at most {most:,} are wanted"] * (of_log > most)
     rows.row(f"memory: a log of {len(log.out):,} bytes", found)
 
 
